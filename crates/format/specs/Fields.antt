@@ -1,0 +1,34 @@
+-- Numbers and operands at a place p of the file. "Numbers are little-endian."
+-- Assumes nothing.
+use Prim.Native.Nat.{ℕ, _+_, _*_}
+use mathlib.Core.List.{List}
+use lib.ListN.{getD}
+use Rattle.format.specs.declared.fields.Destination.{Destination}
+use Rattle.format.specs.declared.fields.Source.{Source}
+use Rattle.format.specs.declared.fields.Declaration.{Declaration}
+
+unfoldable pub word16 : List ℕ → ℕ → ℕ
+word16 file p = getD file p 0 + 256 * getD file (p + 1) 0
+
+unfoldable pub word32 : List ℕ → ℕ → ℕ
+word32 file p = getD file p 0 + 256 * getD file (p + 1) 0 + 65536 * getD file (p + 2) 0 + 16777216 * getD file (p + 3) 0
+
+-- "Destination: file 1, index 2, mask 1 (bit 0 is x)."
+unfoldable pub destinationAt : List ℕ → ℕ → Destination
+destinationAt file p =
+    record { file = getD file p 0; index = word16 file (p + 1); mask = getD file (p + 3) 0 }
+
+-- "Source: file 1, index 2, swizzle 1 (two bits per component, x lowest), modifier 1: negate + 2·indirect"
+unfoldable pub sourceAt : List ℕ → ℕ → Source
+sourceAt file p =
+    record {
+      file = getD file p 0;
+      index = word16 file (p + 1);
+      swizzle = getD file (p + 3) 0;
+      modifier = getD file (p + 4) 0;
+    }
+
+-- "declaration: file 1, first 2, last 2"
+unfoldable pub declarationAt : List ℕ → ℕ → Declaration
+declarationAt file p =
+    record { file = getD file p 0; first = word16 file (p + 1); last = word16 file (p + 3) }

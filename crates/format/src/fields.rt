@@ -1,0 +1,92 @@
+// Numbers, operands and declarations at a place of the file.
+ghost use mathlib.Core.Path.{_≡_};
+ghost use Prim.Native.Nat.{_+_};
+ghost use lib.ListN.{getD};
+ghost use Rattle.format.specs.Fields.{word16, word32, destinationAt, sourceAt, declarationAt};
+
+// Where an instruction writes: a register, and the components that its mask has.
+pub struct Destination {
+    pub file: u8,
+    pub index: u16,
+    pub mask: u8,
+}
+
+// What an instruction reads: a register, the component taken for each, and negate and indirect in the modifier.
+pub struct Source {
+    pub file: u8,
+    pub index: u16,
+    pub swizzle: u8,
+    pub modifier: u8,
+}
+
+// The registers of a file from first to last.
+pub struct Declaration {
+    pub file: u8,
+    pub first: u16,
+    pub last: u16,
+}
+
+// The byte at a place.
+pub fn byte_at(bytes: &[u8], at: u32) -> u8
+    ensures { λ r. ⌜ r ≡ getD (now (bytes .entry)) at 0 ⌝ }
+{
+    let i = at as usize;
+    if i < bytes.len() { bytes[i] } else { 0 }
+}
+
+// The byte k places on; the sum of a place and an offset is taken where it cannot wrap.
+fn byte_after(bytes: &[u8], at: u32, k: u16) -> u8
+    ensures { λ r. ⌜ r ≡ getD (now (bytes .entry)) (at + k) 0 ⌝ }
+{
+    let i = at as usize + k as usize;
+    if i < bytes.len() { bytes[i] } else { 0 }
+}
+
+// The 16-bit number k places on.
+fn u16_after(bytes: &[u8], at: u32, k: u8) -> u16
+    ensures { λ r. ⌜ r ≡ word16 (now (bytes .entry)) (at + k) ⌝ }
+{
+    byte_after(bytes, at, k as u16) as u16 + 256 * byte_after(bytes, at, k as u16 + 1) as u16
+}
+
+// The 32-bit number at a place.
+pub fn u32_at(bytes: &[u8], at: u32) -> u32
+    ensures { λ r. ⌜ r ≡ word32 (now (bytes .entry)) at ⌝ }
+{
+    byte_at(bytes, at) as u32
+        + 256 * byte_after(bytes, at, 1) as u32
+        + 65536 * byte_after(bytes, at, 2) as u32
+        + 16777216 * byte_after(bytes, at, 3) as u32
+}
+
+pub fn destination_at(file: &[u8], at: u32) -> Destination
+    ensures { λ r. ⌜ r ≡ destinationAt (now (file .entry)) at ⌝ }
+{
+    Destination {
+        file: byte_at(file, at),
+        index: u16_after(file, at, 1),
+        mask: byte_after(file, at, 3),
+    }
+}
+
+pub fn source_at(file: &[u8], at: u32) -> Source
+    ensures { λ r. ⌜ r ≡ sourceAt (now (file .entry)) at ⌝ }
+{
+    Source {
+        file: byte_at(file, at),
+        index: u16_after(file, at, 1),
+        swizzle: byte_after(file, at, 3),
+        modifier: byte_after(file, at, 4),
+    }
+}
+
+// The declaration whose file byte stands at a place.
+pub fn declaration_at(file: &[u8], at: u32) -> Declaration
+    ensures { λ r. ⌜ r ≡ declarationAt (now (file .entry)) at ⌝ }
+{
+    Declaration {
+        file: byte_at(file, at),
+        first: u16_after(file, at, 1),
+        last: u16_after(file, at, 3),
+    }
+}

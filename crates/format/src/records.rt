@@ -1,0 +1,81 @@
+// Records of a file, walked by their lengths alone.
+use crate::kinds::UNKNOWN;
+use crate::kinds::body_length;
+ghost use mathlib.Core.Path.{_≡_};
+ghost use Prim.Native.Nat.{_+_};
+ghost use Rattle.format.specs.Records.{sizeAt, startOf, recordOf, boundsOf};
+
+// The longest file that is read.
+pub const LONGEST: usize = 65536;
+
+// Where a record starts, and how many bytes it has.
+pub struct Bounds {
+    pub start: usize,
+    pub length: usize,
+}
+
+// The size of the whole record, kind and body, that starts at a place; 0 where there is none.
+pub fn size_at(file: &[u8], at: u32) -> u32
+    ensures { λ r. ⌜ r ≡ sizeAt (now (file .entry)) at ⌝ }
+{
+    let i = at as usize;
+    if i < file.len() {
+        let n = body_length(file[i]);
+        if n < UNKNOWN {
+            let size = n as u32 + 1;
+            if size as usize <= file.len() - i {
+                return size;
+            }
+        }
+    }
+    0
+}
+
+// Where record n lies in the file; no bytes at the file's end where there is no such record.
+pub fn record_bounds(file: &[u8], n: usize) -> Bounds
+    ensures { λ r. ⌜ r ≡ boundsOf (now (file .entry)) n ⌝ }
+{
+    let end = file.len();
+    if LONGEST < end {
+        return Bounds {
+            start: end,
+            length: 0,
+        };
+    }
+    let mut at: u32 = 0;
+    let mut i: usize = 0;
+    while i < n {
+        let size = size_at(file, at);
+        if size == 0 {
+            return Bounds {
+                start: end,
+                length: 0,
+            };
+        }
+        at += size;
+        i += 1;
+    }
+    let size = size_at(file, at);
+    if size == 0 {
+        return Bounds {
+            start: end,
+            length: 0,
+        };
+    }
+    Bounds {
+        start: at as usize,
+        length: size as usize,
+    }
+}
+
+// Record n's own bytes as a part of the caller's file, kind first; the empty part at the file's end where there is none.
+pub fn record(file: &[u8], n: usize) -> &[u8]
+    ensures bytes { λ r. ⌜ now r ≡ recordOf (now (file .entry)) n ⌝ }
+    ensures block { λ r. ⌜ r .ptr .0 ≡ file .entry .ptr .0 ⌝ }
+    ensures place { λ r. ⌜ r .ptr .1 ≡ file .entry .ptr .1 + startOf (now (file .entry)) n ⌝ }
+{
+    let bounds = record_bounds(file, n);
+    let start = bounds.start;
+    let end = start + bounds.length;
+    &file[start..end]
+}
