@@ -1,6 +1,6 @@
 -- Numbers and operands at a place p of the file. "Numbers are little-endian."
 -- Assumes nothing.
-use Prim.Native.Nat.{ℕ, _+_, _*_}
+use Prim.Native.Nat.{ℕ, _+_, _*_, _%_}
 use mathlib.Core.List.{List}
 use lib.ListN.{getD}
 use Rattle.format.specs.declared.fields.Destination.{Destination}
@@ -32,3 +32,7 @@ sourceAt file p =
 unfoldable pub declarationAt : List ℕ → ℕ → Declaration
 declarationAt file p =
     record { file = getD file p 0; first = word16 file (p + 1); last = word16 file (p + 3) }
+
+-- The word of a CASE record at place p: "CASE compares the component its swizzle's x selects", of the immediate its index names.
+unfoldable pub caseWord : List ℕ → List ℕ → ℕ → ℕ
+caseWord immediates file p = getD immediates (4 * word16 file (p + 2) + getD file (p + 4) 0 % 4) 0

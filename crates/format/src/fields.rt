@@ -2,7 +2,7 @@
 ghost use mathlib.Core.Path.{_≡_};
 ghost use Prim.Native.Nat.{_+_};
 ghost use lib.ListN.{getD};
-ghost use Rattle.format.specs.Fields.{word16, word32, destinationAt, sourceAt, declarationAt};
+ghost use Rattle.format.specs.Fields.{word16, word32, destinationAt, sourceAt, declarationAt, caseWord};
 
 // Where an instruction writes: a register, and the components that its mask has.
 pub struct Destination {
@@ -27,30 +27,35 @@ pub struct Declaration {
 }
 
 // The byte at a place.
-pub fn byte_at(bytes: &[u8], at: u32) -> u8
+pub fn byte_at(bytes: &[u8], at: usize) -> u8
     ensures { λ r. ⌜ r ≡ getD (now (bytes .entry)) at 0 ⌝ }
 {
-    let i = at as usize;
-    if i < bytes.len() { bytes[i] } else { 0 }
+    if at < bytes.len() { bytes[at] } else { 0 }
 }
 
-// The byte k places on; the sum of a place and an offset is taken where it cannot wrap.
-fn byte_after(bytes: &[u8], at: u32, k: u16) -> u8
+// The byte k places on: the sum of a place and an offset is taken only where it lies within the bytes, so that it cannot wrap.
+fn byte_after(bytes: &[u8], at: usize, k: usize) -> u8
     ensures { λ r. ⌜ r ≡ getD (now (bytes .entry)) (at + k) 0 ⌝ }
 {
-    let i = at as usize + k as usize;
-    if i < bytes.len() { bytes[i] } else { 0 }
+    if at < bytes.len() {
+        if k < bytes.len() - at {
+            return bytes[at + k];
+        }
+    }
+    0
 }
 
 // The 16-bit number k places on.
-fn u16_after(bytes: &[u8], at: u32, k: u8) -> u16
+fn u16_after(bytes: &[u8], at: usize, k: u8) -> u16
     ensures { λ r. ⌜ r ≡ word16 (now (bytes .entry)) (at + k) ⌝ }
 {
-    byte_after(bytes, at, k as u16) as u16 + 256 * byte_after(bytes, at, k as u16 + 1) as u16
+    let low = byte_after(bytes, at, k as usize);
+    let high = byte_after(bytes, at, k as usize + 1);
+    low as u16 + 256 * high as u16
 }
 
 // The 32-bit number at a place.
-pub fn u32_at(bytes: &[u8], at: u32) -> u32
+pub fn u32_at(bytes: &[u8], at: usize) -> u32
     ensures { λ r. ⌜ r ≡ word32 (now (bytes .entry)) at ⌝ }
 {
     byte_at(bytes, at) as u32
@@ -59,7 +64,7 @@ pub fn u32_at(bytes: &[u8], at: u32) -> u32
         + 16777216 * byte_after(bytes, at, 3) as u32
 }
 
-pub fn destination_at(file: &[u8], at: u32) -> Destination
+pub fn destination_at(file: &[u8], at: usize) -> Destination
     ensures { λ r. ⌜ r ≡ destinationAt (now (file .entry)) at ⌝ }
 {
     Destination {
@@ -69,7 +74,7 @@ pub fn destination_at(file: &[u8], at: u32) -> Destination
     }
 }
 
-pub fn source_at(file: &[u8], at: u32) -> Source
+pub fn source_at(file: &[u8], at: usize) -> Source
     ensures { λ r. ⌜ r ≡ sourceAt (now (file .entry)) at ⌝ }
 {
     Source {
@@ -81,12 +86,26 @@ pub fn source_at(file: &[u8], at: u32) -> Source
 }
 
 // The declaration whose file byte stands at a place.
-pub fn declaration_at(file: &[u8], at: u32) -> Declaration
+pub fn declaration_at(file: &[u8], at: usize) -> Declaration
     ensures { λ r. ⌜ r ≡ declarationAt (now (file .entry)) at ⌝ }
 {
     Declaration {
         file: byte_at(file, at),
         first: u16_after(file, at, 1),
         last: u16_after(file, at, 3),
+    }
+}
+
+// The word that a CASE record at a place compares: its immediate's component that the swizzle's x selects.
+pub fn case_word(immediates: &[u32], file: &[u8], at: usize) -> u32
+    ensures { λ r. ⌜ r ≡ caseWord (now (immediates .entry)) (now (file .entry)) at ⌝ }
+{
+    let index = u16_after(file, at, 2);
+    let component = byte_after(file, at, 4) % 4;
+    let i = 4 * index as usize + component as usize;
+    if i < immediates.len() {
+        immediates[i]
+    } else {
+        0
     }
 }

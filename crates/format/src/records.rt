@@ -15,15 +15,14 @@ pub struct Bounds {
 }
 
 // The size of the whole record, kind and body, that starts at a place; 0 where there is none.
-pub fn size_at(file: &[u8], at: u32) -> u32
+pub fn size_at(file: &[u8], at: usize) -> usize
     ensures { λ r. ⌜ r ≡ sizeAt (now (file .entry)) at ⌝ }
 {
-    let i = at as usize;
-    if i < file.len() {
-        let n = body_length(file[i]);
+    if at < file.len() {
+        let n = body_length(file[at]);
         if n < UNKNOWN {
-            let size = n as u32 + 1;
-            if size as usize <= file.len() - i {
+            let size = n as usize + 1;
+            if size <= file.len() - at {
                 return size;
             }
         }
@@ -42,7 +41,7 @@ pub fn record_bounds(file: &[u8], n: usize) -> Bounds
             length: 0,
         };
     }
-    let mut at: u32 = 0;
+    let mut at: usize = 0;
     let mut i: usize = 0;
     while i < n {
         let size = size_at(file, at);
@@ -63,8 +62,8 @@ pub fn record_bounds(file: &[u8], n: usize) -> Bounds
         };
     }
     Bounds {
-        start: at as usize,
-        length: size as usize,
+        start: at,
+        length: size,
     }
 }
 
