@@ -1,20 +1,9 @@
+-- A byte by its place; past the end there is 0.
+-- Assumes nothing.
 use borrow.Author.Needs.{needs}
+use Rattle.format.proofs.Readers.{past-end}
 use Rattle.format.proofs.fields.byte_at.Statement.{statement}
 use Rattle.format.proofs.fields.byte_at.Tie as tie
-use Rattle.format.proofs.fields.byte_at.Reads as reads
-use Rattle.format.proofs.fields.byte_at.Lts as lts
-
--- src/fields.rt:33:27
-shared-slice-read-result : tie.Need-shared-slice-read-result
-shared-slice-read-result c = search needs
-
--- src/fields.rt:30:1
-returns : tie.Need-returns
-returns c = search needs
-
--- src/fields.rt:30:1
-returns-2 : tie.Need-returns-2
-returns-2 c = ?
 
 pub byte-at-spec : {M : Type 1} → statement M
-byte-at-spec = tie.close (tie.spec shared-slice-read-result returns returns-2)
+byte-at-spec = tie.close (tie.spec (search needs) (search needs) (λ c. search (needs, past-end)))
