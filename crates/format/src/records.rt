@@ -34,32 +34,26 @@ pub fn size_at(file: &[u8], at: usize) -> usize
 pub fn record_bounds(file: &[u8], n: usize) -> Bounds
     ensures { λ r. ⌜ r ≡ boundsOf (now (file .entry)) n ⌝ }
 {
-    let end = file.len();
-    if LONGEST < end {
-        return Bounds {
-            start: end,
-            length: 0,
-        };
+    let none = Bounds {
+        start: file.len(),
+        length: 0,
+    };
+    if LONGEST < file.len() {
+        return none;
     }
     let mut at: usize = 0;
     let mut i: usize = 0;
     while i < n {
         let size = size_at(file, at);
         if size == 0 {
-            return Bounds {
-                start: end,
-                length: 0,
-            };
+            return none;
         }
         at += size;
         i += 1;
     }
     let size = size_at(file, at);
     if size == 0 {
-        return Bounds {
-            start: end,
-            length: 0,
-        };
+        return none;
     }
     Bounds {
         start: at,
