@@ -1,0 +1,104 @@
+-- The prepared table.
+-- Assumes nothing.
+use Prim.Native.Nat.{ℕ, suc, _+_, _*_}
+use mathlib.Core.Bool.{cond}
+use mathlib.Core.List.{List, [], _∷_, _++_}
+use lib.ListN.{getD}
+use Rattle.blocks.specs.Control.{Op, PLAIN, ELSE, ENDIF, BGNLOOP, ENDLOOP, BRK, CONT, DEFAULT, ENDSWITCH, END, UIF, SWITCH, CASE, labelAt}
+use Rattle.blocks.specs.Lists.{Items, nil, one, uif, loop, switch, size}
+
+-- The words of an instruction's row that steer, as instruction numbers.
+pub record Row : Type 0 where
+  pub jump : ℕ
+  pub label : ℕ
+
+abbrev pub row : ℕ → ℕ → Row
+row jump label = record { jump = jump; label = label }
+
+-- Where an instruction of a list goes: BRK; CONT and, in a loop's own list, ENDLOOP; ELSE.
+-- "BRK goes after the end of the innermost enclosing loop or SWITCH." "ENDLOOP and CONT go after BGNLOOP, CONT that of the
+-- innermost enclosing loop." "ELSE, reached from above, goes after ENDIF." (01, Blocks)
+pub record Targets : Type 0 where
+  pub brk : ℕ
+  pub cont : ℕ
+  pub after : ℕ
+
+abbrev pub nowhere : Targets
+nowhere = record { brk = 0; cont = 0; after = 0 }
+
+-- Inside a UIF, a loop and a SWITCH at n.
+abbrev pub inUif : ℕ → Items → Items → Targets → Targets
+inUif n p q t = record { brk = t .brk; cont = t .cont; after = suc n + size p + size q }
+
+abbrev pub inLoop : ℕ → Items → Targets
+inLoop n l = record { brk = suc n + size l; cont = suc n; after = 0 }
+
+abbrev pub inSwitch : ℕ → Items → Targets → Targets
+inSwitch n l t = record { brk = suc n + size l; cont = t .cont; after = 0 }
+
+module _ (op : ℕ → Op) where
+  -- The number of a list's first own label, 0 for none.
+  unfoldable pub firstLabel : Items → ℕ
+  firstLabel nil = 0
+  firstLabel (one n rest) = cond (labelAt op n) n (firstLabel rest)
+  firstLabel (uif n p q rest) = firstLabel rest
+  firstLabel (loop n l rest) = firstLabel rest
+  firstLabel (switch n l rest) = firstLabel rest
+
+  -- "Jump, as instruction numbers: UIF its false case; ELSE, ENDLOOP, CONT, BRK as above; SWITCH the one after ENDSWITCH. Label:
+  -- SWITCH its first label; CASE and DEFAULT the next label of their SWITCH, 0 for none. All else 0." (01, Blocks)
+  -- Of an instruction that opens no block, before the list `rest`:
+  abbrev pub rowOf : Op → Targets → Items → Row
+  rowOf ELSE t rest = row (t .after) 0
+  rowOf ENDLOOP t rest = row (t .cont) 0
+  rowOf CONT t rest = row (t .cont) 0
+  rowOf BRK t rest = row (t .brk) 0
+  rowOf CASE t rest = row 0 (firstLabel rest)
+  rowOf DEFAULT t rest = row 0 (firstLabel rest)
+  rowOf PLAIN t rest = row 0 0
+  rowOf ENDIF t rest = row 0 0
+  rowOf BGNLOOP t rest = row 0 0
+  rowOf ENDSWITCH t rest = row 0 0
+  rowOf END t rest = row 0 0
+  rowOf UIF t rest = row 0 0
+  rowOf SWITCH t rest = row 0 0
+
+  -- Of a UIF, a loop and a SWITCH at n. "UIF with x = 0 goes after its ELSE, or after ENDIF if none": past its first part,
+  -- of which ELSE or ENDIF is the last.
+  abbrev pub uifRow : ℕ → Items → Row
+  uifRow n p = row (suc n + size p) 0
+
+  abbrev pub loopRow : Row
+  loopRow = row 0 0
+
+  abbrev pub switchRow : ℕ → Items → Row
+  switchRow n l = row (suc n + size l) (firstLabel l)
+
+  -- The rows of a list's instructions, in file order.
+  unfoldable pub rows : Targets → Items → List Row
+  rows t nil = []
+  rows t (one n rest) = rowOf (op n) t rest ∷ rows t rest
+  rows t (uif n p q rest) = uifRow n p ∷ (rows (inUif n p q t) p ++ (rows (inUif n p q t) q ++ rows t rest))
+  rows t (loop n l rest) = loopRow ∷ (rows (inLoop n l) l ++ rows t rest)
+  rows t (switch n l rest) = switchRow n l ∷ (rows (inSwitch n l t) l ++ rows t rest)
+
+  unfoldable pub table : Items → List Row
+  table l = rows nowhere l
+
+abbrev pub rowAt : List Row → ℕ → Row
+rowAt T n = getD T n (row 0 0)
+
+-- "The prepared table has three words an instruction: byte place, jump, label." (01, Blocks)
+abbrev pub rowWords : ℕ
+rowWords = 3
+
+abbrev pub placeIn : List ℕ → ℕ → ℕ
+placeIn words n = getD words (rowWords * n) 0
+
+abbrev pub rowIn : List ℕ → ℕ → Row
+rowIn words n = row (getD words (rowWords * n + 1) 0) (getD words (rowWords * n + 2) 0)
+
+-- The words of the rows from instruction n on; `place` gives an instruction's byte place.
+unfoldable pub wordsOf : (ℕ → ℕ) → ℕ → List Row → List ℕ
+wordsOf place n [] = []
+wordsOf place n (r ∷ R) = place n ∷ r .jump ∷ r .label ∷ wordsOf place (suc n) R

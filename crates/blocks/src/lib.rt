@@ -1,0 +1,7 @@
+// Structured control: the nested lists of a program, how they are read, and the prepared table that the run goes by.
+
+// What comes after a step: an instruction, by its number, or the end of the program.
+pub enum Next {
+    At(u32),
+    Ended,
+}
