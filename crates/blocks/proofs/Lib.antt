@@ -1,1 +1,4 @@
 pub mod Examples
+pub mod Lists
+pub mod Nested
+pub mod Parse
