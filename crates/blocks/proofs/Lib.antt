@@ -1,4 +1,6 @@
+pub mod Agree
 pub mod Examples
 pub mod Lists
 pub mod Nested
 pub mod Parse
+pub mod Sim
