@@ -25,6 +25,10 @@ pub record Alike {S : Type 0} (M M′ : Machine S) (n : ℕ) : Type 0 where
   pub test : M .test n ≡ M′ .test n
   pub value : M .value n ≡ M′ .value n
 
+-- Instruction n has the row r in the table T, and is the same for both machines.
+abbrev pub RowAt : {S : Type 0} → Machine S → Machine S → (ℕ → Row) → ℕ → Row → Type 0
+RowAt M M′ T n r = (T n ≡ r) × Alike M M′ n
+
 -- ---- The ways out of a list
 
 -- Where the run goes on when a list ran out, met BRK, met CONT; `none` where the list cannot do so.
@@ -81,10 +85,6 @@ or-false true b e = absurd (false≢true (sym e))
 module _ {S : Type 0} (M M′ : Machine S) (T : ℕ → Row) (budget : ℕ) where
   abbrev op : ℕ → Op
   op = opAt M′
-
-  -- Instruction n has the row r in the table, and is the same for both machines.
-  abbrev pub RowAt : ℕ → Row → Type 0
-  RowAt n r = (T n ≡ r) × Alike M M′ n
 
   -- The run after c steps, at instruction n.
   go : ℕ → ℕ → S → Reading S
@@ -225,7 +225,7 @@ module _ {S : Type 0} (M M′ : Machine S) (T : ℕ → Row) (budget : ℕ) wher
     Rounds =
         (E : Exits) (l : Items) (n c : ℕ) (s : S)
         → WF op loopBody l (suc n)
-        → Holds op RowAt (inLoop n l) l
+        → Holds op (RowAt M M′ T) (inLoop n l) l
         → size l ≤ mostInstructions
         → c ≤ budget
         → budget < c + f
@@ -246,7 +246,7 @@ module _ {S : Type 0} (M M′ : Machine S) (T : ℕ → Row) (budget : ℕ) wher
 
     one-reads : (C : Context) (t : Targets) (e n : ℕ) (rest : Items)
         → Fine (op n) C (hasDefault op rest)
-        → RowAt n (rowOf op (op n) t rest)
+        → RowAt M M′ T n (rowOf op (op n) t rest)
         → Reads (exits C t e) rest (suc n)
         → Reads (exits C t e) (one n rest) n
     unfolding read
@@ -284,7 +284,7 @@ module _ {S : Type 0} (M M′ : Machine S) (T : ℕ → Row) (budget : ℕ) wher
 
     one-pasts : (C : Context) (t : Targets) (e n : ℕ) (rest : Items)
         → Fine (op n) C (hasDefault op rest)
-        → RowAt n (rowOf op (op n) t rest)
+        → RowAt M M′ T n (rowOf op (op n) t rest)
         → Reads (exits C t e) rest (suc n)
         → Pasts (exits C t e) rest (suc n)
         → Pasts (exits C t e) (one n rest) n
@@ -347,7 +347,7 @@ module _ {S : Type 0} (M M′ : Machine S) (T : ℕ → Row) (budget : ℕ) wher
     close-reads : (C : Context) (t : Targets) (e n : ℕ)
         → op n ≡ closing (C .close)
         → suc n ≡ e
-        → RowAt n (rowOf op (op n) t nil)
+        → RowAt M M′ T n (rowOf op (op n) t nil)
         → Reads (exits C t e) (one n nil) n
     unfolding read
     close-reads C t e n o he row c s h hf =
@@ -375,7 +375,7 @@ module _ {S : Type 0} (M M′ : Machine S) (T : ℕ → Row) (budget : ℕ) wher
 
     uif-reads : (E : Exits) (x n : ℕ) (p q rest : Items)
         → op n ≡ UIF
-        → RowAt n (uifRow op n p)
+        → RowAt M M′ T n (uifRow op n p)
         → Reads (uifExits x E) p (suc n)
         → ((c : ℕ) (s : S) → c ≤ budget → budget ≤ c + f → Sim (uifExits x E) c (go c (suc n + size p) s) (reads q c s))
         → Reads E rest x
@@ -395,7 +395,7 @@ module _ {S : Type 0} (M M′ : Machine S) (T : ℕ → Row) (budget : ℕ) wher
         → op n ≡ BGNLOOP
         → Alike M M′ n
         → WF op loopBody l (suc n)
-        → Holds op RowAt (inLoop n l) l
+        → Holds op (RowAt M M′ T) (inLoop n l) l
         → size l ≤ mostInstructions
         → Reads E rest (suc n + size l)
         → Reads E (loop n l rest) n
@@ -407,7 +407,7 @@ module _ {S : Type 0} (M M′ : Machine S) (T : ℕ → Row) (budget : ℕ) wher
 
     switch-reads : (E : Exits) (n : ℕ) (l rest : Items)
         → op n ≡ SWITCH
-        → RowAt n (switchRow op n l)
+        → RowAt M M′ T n (switchRow op n l)
         → size l ≤ mostInstructions
         → Pasts (switchExits (suc n + size l) E) l (suc n)
         → Reads E rest (suc n + size l)
@@ -428,7 +428,7 @@ module _ {S : Type 0} (M M′ : Machine S) (T : ℕ → Row) (budget : ℕ) wher
         → WF op C l a
         → (t : Targets) (e : ℕ)
         → a + size l ≡ e
-        → Holds op RowAt t l
+        → Holds op (RowAt M M′ T) t l
         → size l ≤ mostInstructions
         → Reads (exits C t e) l a × Pasts (exits C t e) l a
     unfolding past firstLabel
@@ -489,7 +489,7 @@ module _ {S : Type 0} (M M′ : Machine S) (T : ℕ → Row) (budget : ℕ) wher
   pub whole : (f : ℕ) (l : Items) (t : Targets) (s : S)
       → budget ≤ f
       → WF op program l 0
-      → Holds op RowAt t l
+      → Holds op (RowAt M M′ T) t l
       → size l ≤ mostInstructions
       → run M T budget 0 0 s ≡ read M′ budget l (rounds M′ budget f) 0 s
   unfolding go
