@@ -1,0 +1,142 @@
+-- The counts that the code takes are the definitions': `ones` is POPC's sum of bits, `trailingZeros` the least set place, and
+-- `leadingZeros` counts down to the greatest.
+use Rattle.words.specs.Word.{bit, compl, greatest, imsb, least, lsb, popc, sum, umsb}
+use Rattle.words.proofs.Numbers.{below-or-not}
+use Rattle.words.proofs.Bitwise.{bit-above, bit-lt, bit-suc, bit-top, bit-zero, not-bit, sum-front, sum-same}
+use Prim.Native.Nat.{_%_, _+_, _-_, _/_, _<_, _^_, _≤_, suc, zero, ℕ}
+use mathlib.Core.Path.{_∙_, _≡_, ap, ap₂, refl, sym}
+use mathlib.Core.Logic.{_⊎_, inl, inr}
+use mathlib.Core.Bool.{Bool, cond, false, not, true}
+use native.Mathlib.Omega.{arith}
+use native.Mathlib.Numerals.{add-one}
+use native.Mathlib.Nat.{lt-irrefl, lt-of-lt-of-le, not-suc-le-zero, pos-of-ne-zero, pow-suc, zero-div, zero-lt-suc}
+use borrow.Author.Tests.{eq-eqb}
+use lib.Dec.{eqb}
+use lib.Pow.{pow-mono, shr-lt}
+use lib.Arith.{lt-one}
+use lib.Count.{leading-top, leadingZeros, ones, ones-step, onesIn, trailingZeros, under}
+
+-- ---- the least and the greatest, by what they are
+
+pub least-none : (n : ℕ) (t : ℕ → Bool) (d : ℕ) → ((j : ℕ) → j < n → t j ≡ false) → least n t d ≡ d
+unfolding least
+least-none zero t d h = refl
+least-none (suc n) t d h = rw (h n (omega arith)) (least-none n t d (λ j l. h j (omega arith)))
+
+pub least-is : (n : ℕ) (t : ℕ → Bool) (d i : ℕ) → i < n → t i ≡ true → ((j : ℕ) → j < i → t j ≡ false) → least n t d ≡ i
+unfolding least
+least-is zero t d i l y h = absurd (not-suc-le-zero l)
+least-is (suc n) t d i l y h = on (below-or-not i n) (λ k. least-is n t (cond (t n) n d) i k y h)
+  where
+    on : (i < n) ⊎ (n ≤ i) → (i < n → least n t (cond (t n) n d) ≡ i) → least n t (cond (t n) n d) ≡ i
+    on (inl k) rest = rest k
+    on (inr k) rest =
+        let e : i ≡ n = omega arith in
+        rw (← e, y) (least-none i t i h)
+
+pub greatest-none : (n : ℕ) (t : ℕ → Bool) (d : ℕ) → ((j : ℕ) → j < n → t j ≡ false) → greatest n t d ≡ d
+unfolding greatest
+greatest-none zero t d h = refl
+greatest-none (suc n) t d h = rw (h n (omega arith)) (greatest-none n t d (λ j l. h j (omega arith)))
+
+pub greatest-is : (n : ℕ) (t : ℕ → Bool) (d i : ℕ) → i < n → t i ≡ true → ((j : ℕ) → i < j → j < n → t j ≡ false) → greatest n t d ≡ i
+unfolding greatest
+greatest-is zero t d i l y h = absurd (not-suc-le-zero l)
+greatest-is (suc n) t d i l y h = on (below-or-not i n) (λ k. greatest-is n t d i k y (λ j b m. h j b (omega arith)))
+  where
+    on : (i < n) ⊎ (n ≤ i) → (i < n → greatest n t d ≡ i) → cond (t n) n (greatest n t d) ≡ i
+    on (inl k) rest = rw (h n k (omega arith)) (rest k)
+    on (inr k) rest =
+        let e : i ≡ n = omega arith in
+        rw (← e, y)
+
+pub greatest-same : (n : ℕ) (t u : ℕ → Bool) (d : ℕ) → ((i : ℕ) → i < n → t i ≡ u i) → greatest n t d ≡ greatest n u d
+unfolding greatest
+greatest-same zero t u d h = refl
+greatest-same (suc n) t u d h = rw (h n (omega arith), greatest-same n t u d (λ i l. h i (omega arith)))
+
+-- ---- POPC
+
+pub popc-is : (w a : ℕ) → a < 2 ^ w → ones a ≡ popc w a
+unfolding ones onesIn popc sum
+popc-is zero a h = ap ones (lt-one h)
+popc-is (suc w) a h =
+    ones-step a
+    ∙ ap₂ (λ (x y : ℕ). x + y) (sym (bit-zero a)) (popc-is w (a / 2) (shr-lt w 1 (rw add-one h)) ∙ sum-same w (bit (a / 2)) (λ i. bit a (suc i)) (λ i l. sym (bit-suc a i)))
+    ∙ sym (sum-front w (bit a))
+
+-- ---- LSB
+
+-- below the lowest set bit of an even number: 0, and what stands below that of its half
+even-below : (a m : ℕ) → a % 2 ≡ 0 → ((j : ℕ) → j < m → bit (a / 2) j ≡ 0) → (j : ℕ) → j < suc m → bit a j ≡ 0
+even-below a m e h zero l = bit-zero a ∙ e
+even-below a m e h (suc j) l = bit-suc a j ∙ h j (omega arith)
+
+-- the trailing zeros of a number that is not 0: the place of its lowest set bit
+pub lowest-set : (k a : ℕ) → zero < a → a < 2 ^ k
+    → (trailingZeros k a < k) × (bit a (trailingZeros k a) ≡ 1) × ((j : ℕ) → j < trailingZeros k a → bit a j ≡ 0)
+unfolding trailingZeros
+lowest-set zero a p h = absurd (lt-irrefl 0 (rw (lt-one h) at p))
+lowest-set (suc k) a p h = on (a % 2) refl (λ q. lowest-set k (a / 2) q (shr-lt k 1 (rw add-one h)))
+  where
+    on : (d : ℕ) → a % 2 ≡ d
+        → (zero < a / 2 → (trailingZeros k (a / 2) < k) × (bit (a / 2) (trailingZeros k (a / 2)) ≡ 1) × ((j : ℕ) → j < trailingZeros k (a / 2) → bit (a / 2) j ≡ 0))
+        → (under (a % 2) (trailingZeros k (a / 2)) < suc k) × (bit a (under (a % 2) (trailingZeros k (a / 2))) ≡ 1)
+        × ((j : ℕ) → j < under (a % 2) (trailingZeros k (a / 2)) → bit a j ≡ 0)
+    on zero e rest =
+        let s = rest (omega arith) in
+        rw e (omega (arith, s .0), bit-suc a (trailingZeros k (a / 2)) ∙ s .1, even-below a (trailingZeros k (a / 2)) e (s .2))
+    on (suc d) e rest = rw e (zero-lt-suc k, bit-zero a ∙ (omega arith), λ j l. absurd (not-suc-le-zero l))
+
+pub lsb-none : (w a : ℕ) → a ≡ 0 → 2 ^ w - 1 ≡ lsb w a
+unfolding lsb
+lsb-none w a e = sym (least-none w _ (2 ^ w - 1) (λ j l. ap (λ (n : ℕ). eqb (bit n j) 1) e ∙ ap (λ (n : ℕ). eqb (n % 2) 1) (zero-div (2 ^ j))))
+
+pub lsb-is : (w a : ℕ) → (a ≡ 0 → ⊥) → a < 2 ^ w → trailingZeros w a ≡ lsb w a
+unfolding lsb
+lsb-is w a n h =
+    let s = lowest-set w a (pos-of-ne-zero n) h in
+    sym (least-is w _ (2 ^ w - 1) (trailingZeros w a) (s .0) (eq-eqb _ 1 (s .1)) (λ j l. ap (λ (n : ℕ). eqb n 1) (s .2 j l)))
+
+-- ---- UMSB and IMSB
+
+pub umsb-none : (w a : ℕ) → a ≡ 0 → 2 ^ w - 1 ≡ umsb w a
+unfolding umsb
+umsb-none w a e =
+    sym (greatest-none w _ (2 ^ w - 1) (λ j l. ap (λ (n : ℕ). eqb (bit n j) 1) e ∙ ap (λ (n : ℕ). eqb (n % 2) 1) (zero-div (2 ^ j))))
+
+-- a number above 0 has fewer than w leading zeros
+pub leading-fits : (w a : ℕ) → (a ≡ 0 → ⊥) → a < 2 ^ w → leadingZeros w a ≤ w - 1
+leading-fits w a n h = let t = leading-top w a (pos-of-ne-zero n) h in omega (arith, t .1)
+
+pub umsb-is : (w a : ℕ) → (a ≡ 0 → ⊥) → a < 2 ^ w → w - 1 - leadingZeros w a ≡ umsb w a
+unfolding umsb
+umsb-is w a n h =
+    let t = leading-top w a (pos-of-ne-zero n) h in
+    let e : w - 1 - leadingZeros w a ≡ t .0 = omega (arith, t .1) in
+    e ∙ sym (greatest-is w _ (2 ^ w - 1) (t .0) (omega (arith, t .1)) (eq-eqb _ 1 (bit-top a (t .0) (t .2) (t .3)))
+    (λ j b l. ap (λ (n : ℕ). eqb n 1) (bit-above a j (lt-of-lt-of-le (t .3) (pow-mono b)))))
+
+-- a bit that is not the sign bit is set in a word, or in its complement
+not-zero : (b : ℕ) → b < 2 → not (eqb b 0) ≡ eqb b 1
+not-zero zero l = refl
+not-zero (suc zero) l = refl
+not-zero (suc (suc b)) l = absurd (omega arith)
+
+not-one : (b : ℕ) → b < 2 → not (eqb b 1) ≡ eqb (1 - b) 1
+not-one zero l = refl
+not-one (suc zero) l = refl
+not-one (suc (suc b)) l = absurd (omega arith)
+
+module _ (w : ℕ) (halves : 2 ^ w ≡ 2 ^ (w - 1) + 2 ^ (w - 1)) (a : ℕ) (l : a < 2 ^ w) where
+  pub imsb-low : (r : ℕ) → r ≡ umsb w a → a < 2 ^ (w - 1) → r ≡ imsb w a
+  unfolding umsb imsb
+  imsb-low r e h =
+      e ∙ greatest-same w _ _ (2 ^ w - 1) (λ i k. sym (ap (λ (s : ℕ). not (eqb (bit a i) s)) (bit-above a (w - 1) h) ∙ not-zero (bit a i) (bit-lt a i)))
+
+  pub imsb-high : (r : ℕ) → r ≡ umsb w (compl w a) → 2 ^ (w - 1) ≤ a → r ≡ imsb w a
+  unfolding umsb imsb
+  imsb-high r e h =
+      let s : bit a (w - 1) ≡ 1 = bit-top a (w - 1) h (omega (arith, pow-suc 2 (w - 1))) in
+      e ∙ greatest-same w _ _ (2 ^ w - 1) (λ i k.
+      ap (λ (n : ℕ). eqb n 1) (not-bit w a i l k) ∙ sym (ap (λ (n : ℕ). not (eqb (bit a i) n)) s ∙ not-one (bit a i) (bit-lt a i)))

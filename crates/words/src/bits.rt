@@ -1,0 +1,75 @@
+// Bitwise results, counts and places of bits, and the reversal.
+use super::sums::LEAST32;
+ghost use mathlib.Core.Path.{_≡_};
+ghost use lib.Bits.{bitAnd, bitOr, bitXor};
+ghost use Rattle.words.specs.Word.{compl, popc, lsb, umsb, imsb, brev};
+
+pub fn and32(a: u32, b: u32) -> u32
+    ensures { λ r. ⌜ r ≡ bitAnd a b ⌝ }
+{
+    a & b
+}
+
+pub fn or32(a: u32, b: u32) -> u32
+    ensures { λ r. ⌜ r ≡ bitOr a b ⌝ }
+{
+    a | b
+}
+
+pub fn xor32(a: u32, b: u32) -> u32
+    ensures { λ r. ⌜ r ≡ bitXor a b ⌝ }
+{
+    a ^ b
+}
+
+pub fn not32(a: u32) -> u32
+    ensures { λ r. ⌜ r ≡ compl 32 a ⌝ }
+{
+    !a
+}
+
+pub fn popc32(a: u32) -> u32
+    ensures { λ r. ⌜ r ≡ popc 32 a ⌝ }
+{
+    u32::count_ones(a)
+}
+
+pub fn lsb32(a: u32) -> u32
+    ensures { λ r. ⌜ r ≡ lsb 32 a ⌝ }
+{
+    if a == 0 {
+        u32::MAX
+    } else {
+        u32::trailing_zeros(a)
+    }
+}
+
+pub fn umsb32(a: u32) -> u32
+    ensures { λ r. ⌜ r ≡ umsb 32 a ⌝ }
+{
+    if a == 0 {
+        u32::MAX
+    } else {
+        31 - u32::leading_zeros(a)
+    }
+}
+
+// The highest 0 of a negative word is the highest 1 of its complement.
+pub fn imsb32(a: u32) -> u32
+    ensures { λ r. ⌜ r ≡ imsb 32 a ⌝ }
+{
+    if a < LEAST32 { umsb32(a) } else { umsb32(!a) }
+}
+
+// The bits are taken from the bottom of `left` and put at the bottom of `done`.
+pub fn brev32(a: u32) -> u32
+    ensures { λ r. ⌜ r ≡ brev 32 a ⌝ }
+{
+    let mut left = a;
+    let mut done = 0u32;
+    for i in 0..32u32 {
+        done = done * 2 + left % 2;
+        left = left / 2;
+    }
+    done
+}
