@@ -1,10 +1,9 @@
 -- Fields of bits: when one lies outside the word, and the parts that the code puts together.
 use Rattle.words.specs.Word.{bfi, ibfe, outside, signed, ubfe, word}
-use Rattle.words.proofs.Signed.{signed-high, signed-low, word-negsuc, word-pos}
-use Rattle.words.proofs.Numbers.{below-or-not, ltb-same}
+use Rattle.words.proofs.Signed.{by-sign, signed-high, signed-low, word-negsuc, word-pos}
+use Rattle.words.proofs.Numbers.{ltb-same}
 use Prim.Native.Nat.{_%_, _*_, _+_, _-_, _/_, _<_, _^_, _≤_, suc, zero, ℕ}
 use mathlib.Core.Path.{_∙_, _≡_, ap, sym}
-use mathlib.Core.Logic.{⊎-elim}
 use mathlib.Core.Bool.{Bool, false, true}
 use native.Mathlib.Omega.{arith}
 use native.Mathlib.Nat.{add-comm, add-mul, lt-of-lt-of-le, mod-eq-of-lt, mod-le, mod-lt, mul-assoc, one-mul}
@@ -19,13 +18,11 @@ module _ (w : ℕ) (halves : 2 ^ w ≡ 2 ^ (w - 1) + 2 ^ (w - 1)) (room : w < 2 
   outside-is : outside w o n ≡ ltb w (o + n)
   unfolding outside
   outside-is =
-      ⊎-elim
-      (λ (p : o < 2 ^ (w - 1)).
-      ⊎-elim (λ (q : n < 2 ^ (w - 1)). simp (signed-low w halves o p, signed-low w halves n q, le-ltb o 0 (omega arith), le-ltb n 0 (omega arith)))
-      (λ (q : 2 ^ (w - 1) ≤ n). simp (signed-low w halves o p, signed-high w halves n q ln, le-ltb o 0 (omega arith), lt-ltb w (o + n) (omega arith)))
-      (below-or-not n (2 ^ (w - 1))))
-      (λ (p : 2 ^ (w - 1) ≤ o). simp (signed-high w halves o p lo, lt-ltb w (o + n) (omega arith)))
-      (below-or-not o (2 ^ (w - 1)))
+      by-sign w halves o
+      (λ p. by-sign w halves n
+      (λ q. simp (signed-low w halves o p, signed-low w halves n q, le-ltb o 0 (omega arith), le-ltb n 0 (omega arith)))
+      (λ q. simp (signed-low w halves o p, signed-high w halves n q ln, le-ltb o 0 (omega arith), lt-ltb w (o + n) (omega arith))))
+      (λ p. simp (signed-high w halves o p lo, lt-ltb w (o + n) (omega arith)))
 
   pub outside-offset : w < o → true ≡ outside w o n
   outside-offset h = sym (outside-is ∙ lt-ltb w (o + n) (omega arith))

@@ -1,7 +1,7 @@
 -- What a reader wants to know of single bits: those of AND, OR, XOR and NOT, of a sum of powers of two, and of a half.
 use Rattle.words.specs.Word.{bit, compl, sum}
 use Rattle.words.proofs.Numbers.{below-or-not, complement-shr}
-use Prim.Native.Nat.{_%_, _*_, _+_, _-_, _/_, _<_, _^_, _≤_, suc, zero, ℕ}
+use Prim.Native.Nat.{_%_, _*_, _+_, _-_, _/_, _<_, _^_, _≤_, max, min, suc, zero, ℕ}
 use mathlib.Core.Path.{_∙_, _≡_, ap, ap₂, refl, sym}
 use mathlib.Core.Logic.{⊎-elim}
 use native.Mathlib.Omega.{arith}
@@ -14,15 +14,32 @@ use lib.Bits.{and-mod, and-shr, bitAnd, bitOr, bitXor, or-mod, or-shr, xor-mod, 
 pub bit-lt : (a i : ℕ) → bit a i < 2
 bit-lt a i = mod-lt (a / 2 ^ i) (zero-lt-suc 1)
 
--- AND, OR and XOR go bit by bit
-pub and-bit : (a b i : ℕ) → bit (bitAnd a b) i ≡ bitAnd (bit a i) (bit b i)
-and-bit a b i = ap (λ (n : ℕ). n % 2) (and-shr a b i) ∙ and-mod (a / 2 ^ i) (b / 2 ^ i) 1
+-- what holds of 0 and of 1 holds of a bit
+pub bit-cases : (P : ℕ → Type 0) → P 0 → P 1 → (x : ℕ) → x < 2 → P x
+bit-cases P z o zero l = z
+bit-cases P z o (suc zero) l = o
+bit-cases P z o (suc (suc x)) l = absurd (omega arith)
 
-pub or-bit : (a b i : ℕ) → bit (bitOr a b) i ≡ bitOr (bit a i) (bit b i)
-or-bit a b i = ap (λ (n : ℕ). n % 2) (or-shr a b i) ∙ or-mod (a / 2 ^ i) (b / 2 ^ i) 1
+-- AND, OR and XOR go bit by bit: set in both, in one at least, in one only
+module _ (a b i : ℕ) where
+  by-bits : (P : ℕ → ℕ → Type 0) → P 0 0 → P 0 1 → P 1 0 → P 1 1 → P (bit a i) (bit b i)
+  by-bits P zz zo oz oo =
+      bit-cases (λ x. P x (bit b i)) (bit-cases (P 0) zz zo (bit b i) (bit-lt b i)) (bit-cases (P 1) oz oo (bit b i) (bit-lt b i)) (bit a i) (bit-lt a i)
 
-pub xor-bit : (a b i : ℕ) → bit (bitXor a b) i ≡ bitXor (bit a i) (bit b i)
-xor-bit a b i = ap (λ (n : ℕ). n % 2) (xor-shr a b i) ∙ xor-mod (a / 2 ^ i) (b / 2 ^ i) 1
+  pub and-bit : bit (bitAnd a b) i ≡ min (bit a i) (bit b i)
+  and-bit =
+      ap (λ (n : ℕ). n % 2) (and-shr a b i) ∙ and-mod (a / 2 ^ i) (b / 2 ^ i) 1
+      ∙ by-bits (λ x y. bitAnd x y ≡ min x y) refl refl refl refl
+
+  pub or-bit : bit (bitOr a b) i ≡ max (bit a i) (bit b i)
+  or-bit =
+      ap (λ (n : ℕ). n % 2) (or-shr a b i) ∙ or-mod (a / 2 ^ i) (b / 2 ^ i) 1
+      ∙ by-bits (λ x y. bitOr x y ≡ max x y) refl refl refl refl
+
+  pub xor-bit : bit (bitXor a b) i ≡ (bit a i + bit b i) % 2
+  xor-bit =
+      ap (λ (n : ℕ). n % 2) (xor-shr a b i) ∙ xor-mod (a / 2 ^ i) (b / 2 ^ i) 1
+      ∙ by-bits (λ x y. bitXor x y ≡ (x + y) % 2) refl refl refl refl
 
 -- NOT turns every bit of the word
 odd-complement : (m x : ℕ) → x < 2 ^ (m + 1) → (2 ^ (m + 1) - 1 - x) % 2 ≡ 1 - x % 2

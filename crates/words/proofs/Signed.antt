@@ -1,4 +1,5 @@
 -- Two's complement over the width: a word's signed value and back, its magnitude, its sign, the signed order and the signed shift.
+-- The laws go by the sign, a word in the lower half of the range or in the upper; they are cited as `LAW 32 refl` and `LAW 64 refl`.
 use Rattle.words.specs.Word.{add, iabs, neg, signed, slt, ssg, word}
 use Rattle.words.proofs.Numbers.{below-or-not, ltb-same}
 use Prim.Native.Nat.{_%_, _+_, _-_, _/_, _<_, _^_, _≤_, suc, zero, ℕ}
@@ -8,11 +9,14 @@ use native.Mathlib.Omega.{arith}
 use native.Mathlib.Nat.{div-le-self, mod-eq-of-lt, mod-eq-sub-mod, mod-self, pos-of-ne-zero, sub-zero, zero-mod}
 use borrow.Author.Tests.{le-ltb, lt-ltb}
 use lib.Dec.{ltb}
-use lib.Pow.{pow-pos}
+use lib.Pow.{high, low, pow-pos}
 use lib.IntN.{natAbs, negsuc, negℤ, pos, ℤ}
 use lib.Signed.{shrZ}
 
 module _ (w : ℕ) (halves : 2 ^ w ≡ 2 ^ (w - 1) + 2 ^ (w - 1)) where
+  pub by-sign : {P : Type 0} (a : ℕ) → (a < 2 ^ (w - 1) → P) → (2 ^ (w - 1) ≤ a → P) → P
+  by-sign a low high = ⊎-elim low high (below-or-not a (2 ^ (w - 1)))
+
   -- ---- the signed value of a word, and the word of a whole number
 
   pub signed-low : (a : ℕ) → a < 2 ^ (w - 1) → signed w a ≡ pos a
@@ -40,9 +44,8 @@ module _ (w : ℕ) (halves : 2 ^ w ≡ 2 ^ (w - 1) + 2 ^ (w - 1)) where
   -- a word is the word of its signed value
   pub word-signed : (a : ℕ) → a < 2 ^ w → word w (signed w a) ≡ a
   word-signed a l =
-      ⊎-elim (λ (h : a < 2 ^ (w - 1)). ap (word w) (signed-low a h) ∙ word-pos a l)
-      (λ (h : 2 ^ (w - 1) ≤ a). ap (word w) (signed-high a h l) ∙ word-negsuc (2 ^ w - suc a) (omega arith) ∙ (omega arith))
-      (below-or-not a (2 ^ (w - 1)))
+      by-sign a (λ h. ap (word w) (signed-low a h) ∙ word-pos a l)
+      (λ h. ap (word w) (signed-high a h l) ∙ word-negsuc (2 ^ w - suc a) (omega arith) ∙ (omega arith))
 
   -- ---- the magnitude
 
@@ -54,15 +57,11 @@ module _ (w : ℕ) (halves : 2 ^ w ≡ 2 ^ (w - 1) + 2 ^ (w - 1)) where
 
   pub abs-lt : (a : ℕ) → a < 2 ^ w → natAbs (signed w a) < 2 ^ w
   abs-lt a l =
-      ⊎-elim (λ (h : a < 2 ^ (w - 1)). omega (arith, abs-low a h))
-      (λ (h : 2 ^ (w - 1) ≤ a). omega (arith, abs-high a h l, pow-pos (w - 1)))
-      (below-or-not a (2 ^ (w - 1)))
+      by-sign a (λ h. omega (arith, abs-low a h)) (λ h. omega (arith, abs-high a h l, pow-pos (w - 1)))
 
   pub abs-pos : (a : ℕ) → a < 2 ^ w → (a ≡ 0 → ⊥) → zero < natAbs (signed w a)
   abs-pos a l n =
-      ⊎-elim (λ (h : a < 2 ^ (w - 1)). omega (arith, abs-low a h, n))
-      (λ (h : 2 ^ (w - 1) ≤ a). omega (arith, abs-high a h l))
-      (below-or-not a (2 ^ (w - 1)))
+      by-sign a (λ h. omega (arith, abs-low a h, n)) (λ h. omega (arith, abs-high a h l))
 
   -- the magnitude is the word that IABS gives
   pub iabs-is : (a : ℕ) → a < 2 ^ w → iabs w a ≡ natAbs (signed w a)
@@ -91,26 +90,36 @@ module _ (w : ℕ) (halves : 2 ^ w ≡ 2 ^ (w - 1) + 2 ^ (w - 1)) where
 
   -- ---- the order: half the range added makes it the unsigned one
 
-  add-half-low : (a : ℕ) → a < 2 ^ (w - 1) → add w a (2 ^ (w - 1)) ≡ a + 2 ^ (w - 1)
-  add-half-low a h = mod-eq-of-lt (omega arith)
+  moved-low : (a : ℕ) → a < 2 ^ (w - 1) → add w a (2 ^ (w - 1)) ≡ a + 2 ^ (w - 1)
+  moved-low a h = mod-eq-of-lt (omega arith)
 
-  add-half-high : (a : ℕ) → 2 ^ (w - 1) ≤ a → a < 2 ^ w → add w a (2 ^ (w - 1)) ≡ a - 2 ^ (w - 1)
-  add-half-high a h l =
-      mod-eq-sub-mod {n = a + 2 ^ (w - 1)} {m = 2 ^ w} (omega arith) ∙ mod-eq-of-lt {n = a + 2 ^ (w - 1) - 2 ^ w} {m = 2 ^ w} (omega arith) ∙ (omega arith)
+  moved-high : (a : ℕ) → 2 ^ (w - 1) ≤ a → a < 2 ^ w → add w a (2 ^ (w - 1)) ≡ a - 2 ^ (w - 1)
+  moved-high a h l =
+      mod-eq-sub-mod {n = a + 2 ^ (w - 1)} {m = 2 ^ w} (omega arith)
+      ∙ mod-eq-of-lt {n = a + 2 ^ (w - 1) - 2 ^ w} {m = 2 ^ w} (omega arith)
+      ∙ (omega arith)
 
-  module _ (a b x y : ℕ) (la : a < 2 ^ w) (lb : b < 2 ^ w) (ex : x ≡ add w a (2 ^ (w - 1))) (ey : y ≡ add w b (2 ^ (w - 1))) where
-    pub slt-is : ltb x y ≡ slt w a b
-    slt-is =
-        ⊎-elim
-        (λ (p : a < 2 ^ (w - 1)).
-        ⊎-elim (λ (q : b < 2 ^ (w - 1)). cc (add-half-low a p, add-half-low b q, signed-low a p, signed-low b q, ltb-same (a + 2 ^ (w - 1)) (b + 2 ^ (w - 1)) a b (λ h. omega arith) (λ h. omega arith)))
-        (λ (q : 2 ^ (w - 1) ≤ b). cc (add-half-low a p, add-half-high b q lb, signed-low a p, signed-high b q lb, le-ltb (a + 2 ^ (w - 1)) (b - 2 ^ (w - 1)) (omega arith)))
-        (below-or-not b (2 ^ (w - 1))))
-        (λ (p : 2 ^ (w - 1) ≤ a).
-        ⊎-elim (λ (q : b < 2 ^ (w - 1)). cc (add-half-high a p la, add-half-low b q, signed-high a p la, signed-low b q, lt-ltb (a - 2 ^ (w - 1)) (b + 2 ^ (w - 1)) (omega arith)))
-        (λ (q : 2 ^ (w - 1) ≤ b). cc (add-half-high a p la, add-half-high b q lb, signed-high a p la, signed-high b q lb, ltb-same (a - 2 ^ (w - 1)) (b - 2 ^ (w - 1)) (2 ^ w - suc b) (2 ^ w - suc a) (λ h. omega arith) (λ h. omega arith)))
-        (below-or-not b (2 ^ (w - 1))))
-        (below-or-not a (2 ^ (w - 1)))
+  module _ (a b : ℕ) (la : a < 2 ^ w) (lb : b < 2 ^ w) where
+    moved-low-low : a < 2 ^ (w - 1) → b < 2 ^ (w - 1) → ltb (a + 2 ^ (w - 1)) (b + 2 ^ (w - 1)) ≡ slt w a b
+    moved-low-low p q =
+        ltb-same (a + 2 ^ (w - 1)) (b + 2 ^ (w - 1)) a b (λ h. omega arith) (λ h. omega arith) ∙ cc (signed-low a p, signed-low b q)
+
+    moved-low-high : a < 2 ^ (w - 1) → 2 ^ (w - 1) ≤ b → ltb (a + 2 ^ (w - 1)) (b - 2 ^ (w - 1)) ≡ slt w a b
+    moved-low-high p q = le-ltb (a + 2 ^ (w - 1)) (b - 2 ^ (w - 1)) (omega arith) ∙ cc (signed-low a p, signed-high b q lb)
+
+    moved-high-low : 2 ^ (w - 1) ≤ a → b < 2 ^ (w - 1) → ltb (a - 2 ^ (w - 1)) (b + 2 ^ (w - 1)) ≡ slt w a b
+    moved-high-low p q = lt-ltb (a - 2 ^ (w - 1)) (b + 2 ^ (w - 1)) (omega arith) ∙ cc (signed-high a p la, signed-low b q)
+
+    moved-high-high : 2 ^ (w - 1) ≤ a → 2 ^ (w - 1) ≤ b → ltb (a - 2 ^ (w - 1)) (b - 2 ^ (w - 1)) ≡ slt w a b
+    moved-high-high p q =
+        ltb-same (a - 2 ^ (w - 1)) (b - 2 ^ (w - 1)) (2 ^ w - suc b) (2 ^ w - suc a) (λ h. omega arith) (λ h. omega arith)
+        ∙ cc (signed-high a p la, signed-high b q lb)
+
+    pub slt-is : (x y : ℕ) → x ≡ add w a (2 ^ (w - 1)) → y ≡ add w b (2 ^ (w - 1)) → ltb x y ≡ slt w a b
+    slt-is x y ex ey =
+        by-sign a
+        (λ p. by-sign b (λ q. cc (moved-low a p, moved-low b q, moved-low-low p q)) (λ q. cc (moved-low a p, moved-high b q lb, moved-low-high p q)))
+        (λ p. by-sign b (λ q. cc (moved-high a p la, moved-low b q, moved-high-low p q)) (λ q. cc (moved-high a p la, moved-high b q lb, moved-high-high p q)))
 
   -- ---- the shift: a negative word's complement is shifted
 
@@ -121,4 +130,5 @@ module _ (w : ℕ) (halves : 2 ^ w ≡ 2 ^ (w - 1) + 2 ^ (w - 1)) where
   ishr-high a m l h =
       let e : 2 ^ w - 1 - a ≡ 2 ^ w - suc a = omega arith in
       ap (λ (n : ℕ). 2 ^ w - 1 - n / m) e
-      ∙ sym (ap (λ (z : ℤ). word w (shrZ z m)) (signed-high a h l) ∙ word-negsuc ((2 ^ w - suc a) / m) (omega (arith, div-le-self (2 ^ w - suc a) m)))
+      ∙ sym (ap (λ (z : ℤ). word w (shrZ z m)) (signed-high a h l)
+      ∙ word-negsuc ((2 ^ w - suc a) / m) (omega (arith, div-le-self (2 ^ w - suc a) m)))

@@ -9,7 +9,6 @@ pub imsb32-spec : {M : Type 1} → statement M
 imsb32-spec =
     tie.close
     (tie.spec
-    (search needs)
-    (search needs)
+    (search needs) (search needs)
     (λ c. search (needs, imsb-low 32 refl))
     (λ c. search (needs, imsb-high 32 refl)))

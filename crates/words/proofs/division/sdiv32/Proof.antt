@@ -11,11 +11,9 @@ sdiv32-spec =
     tie.close
     (tie.spec
     (λ c. search (needs, when-equal))
-    (search needs)
-    (search needs)
+    (search needs) (search needs)
     (λ c. search (needs, divisor-pos 32 refl))
-    (search needs)
-    (search needs)
+    (search needs) (search needs)
     (λ c. search (needs, sdiv-low-low 32 refl))
     (λ c. search (needs, sdiv-low-high 32 refl))
     (λ c. search (needs, sdiv-high-low 32 refl))

@@ -11,11 +11,9 @@ sdiv64-spec =
     tie.close
     (tie.spec
     (λ c. search (needs, when-equal))
-    (search needs)
-    (search needs)
+    (search needs) (search needs)
     (λ c. search (needs, divisor-pos 64 refl))
-    (search needs)
-    (search needs)
+    (search needs) (search needs)
     (λ c. search (needs, sdiv-low-low 64 refl))
     (λ c. search (needs, sdiv-low-high 64 refl))
     (λ c. search (needs, sdiv-high-low 64 refl))

@@ -11,8 +11,7 @@ srem32-spec =
     tie.close
     (tie.spec
     (λ c. search (needs, when-equal))
-    (search needs)
-    (search needs)
+    (search needs) (search needs)
     (λ c. search (needs, divisor-pos 32 refl))
     (search needs)
     (λ c. search (needs, srem-low 32 refl))

@@ -11,8 +11,7 @@ srem64-spec =
     tie.close
     (tie.spec
     (λ c. search (needs, when-equal))
-    (search needs)
-    (search needs)
+    (search needs) (search needs)
     (λ c. search (needs, divisor-pos 64 refl))
     (search needs)
     (λ c. search (needs, srem-low 64 refl))

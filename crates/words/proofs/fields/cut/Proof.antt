@@ -8,8 +8,7 @@ pub cut-spec : {M : Type 1} → statement M
 cut-spec =
     tie.close
     (tie.spec
-    (search needs)
-    (search needs)
+    (search needs) (search needs)
     (λ c. search (needs, power-pos))
     (λ c. record { fits = search (needs, cut-fits 32) })
     (λ c. search (needs, cut-is)))

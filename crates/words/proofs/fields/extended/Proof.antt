@@ -9,9 +9,7 @@ pub extended-spec : {M : Type 1} → statement M
 extended-spec =
     tie.close
     (tie.spec
-    (search needs)
-    (search needs)
-    (search needs)
+    (search needs) (search needs) (search needs)
     (λ c. search (needs, power-pos))
     (λ c. search (needs, extended-rest 32 refl))
     (λ c. record { fits = search (needs, extended-fits 32 refl) })

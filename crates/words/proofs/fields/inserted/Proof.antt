@@ -8,9 +8,7 @@ pub inserted-spec : {M : Type 1} → statement M
 inserted-spec =
     tie.close
     (tie.spec
-    (search needs)
-    (search needs)
-    (search needs)
+    (search needs) (search needs) (search needs)
     (λ c κs. search (needs, above-fits 32))
     (λ c κs. search (needs, upper-fits 32))
     (λ c. record { fits = search (needs, inserted-fits 32) })

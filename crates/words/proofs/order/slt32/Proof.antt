@@ -9,6 +9,5 @@ pub slt32-spec : {M : Type 1} → statement M
 slt32-spec =
     tie.close
     (tie.spec
-    (search needs)
-    (search needs)
+    (search needs) (search needs)
     (λ c. search (needs, slt-is 32 refl)))

@@ -9,6 +9,5 @@ pub slt64-spec : {M : Type 1} → statement M
 slt64-spec =
     tie.close
     (tie.spec
-    (search needs)
-    (search needs)
+    (search needs) (search needs)
     (λ c. search (needs, slt-is 64 refl)))

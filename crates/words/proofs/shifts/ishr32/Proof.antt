@@ -9,7 +9,6 @@ pub ishr32-spec : {M : Type 1} → statement M
 ishr32-spec =
     tie.close
     (tie.spec
-    (search needs)
-    (search needs)
+    (search needs) (search needs)
     (λ c. search (needs, ishr-low 32 refl))
     (λ c. search (needs, ishr-high 32 refl)))

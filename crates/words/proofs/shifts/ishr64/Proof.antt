@@ -9,7 +9,6 @@ pub ishr64-spec : {M : Type 1} → statement M
 ishr64-spec =
     tie.close
     (tie.spec
-    (search needs)
-    (search needs)
+    (search needs) (search needs)
     (λ c. search (needs, ishr-low 64 refl))
     (λ c. search (needs, ishr-high 64 refl)))

@@ -9,13 +9,7 @@ pub imulhi32-spec : {M : Type 1} → statement M
 imulhi32-spec =
     tie.close
     (tie.spec
-    (search needs)
-    (search needs)
-    (search needs)
-    (search needs)
-    (search needs)
-    (search needs)
-    (search needs)
+    (search needs) (search needs) (search needs) (search needs) (search needs) (search needs) (search needs)
     (λ c. search (needs, imulhi-low-low 32 refl))
     (λ c. search (needs, imulhi-low-high 32 refl))
     (λ c. search (needs, imulhi-high-low 32 refl))

@@ -9,7 +9,5 @@ pub magnitude-product-spec : {M : Type 1} → statement M
 magnitude-product-spec =
     tie.close
     (tie.spec
-    (search needs)
-    (search needs)
-    (search needs)
+    (search needs) (search needs) (search needs)
     (λ c. search (needs, magnitudes 32 refl)))

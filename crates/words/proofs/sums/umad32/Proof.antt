@@ -8,6 +8,5 @@ pub umad32-spec : {M : Type 1} → statement M
 umad32-spec =
     tie.close
     (tie.spec
-    (search needs)
-    (search needs)
+    (search needs) (search needs)
     (λ c. search (needs, umad-is 32)))
