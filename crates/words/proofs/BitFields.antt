@@ -14,6 +14,7 @@ use lib.Arith.{digits-lt}
 
 -- ---- outside, over whole numbers, is one test of the two words' sum
 
+-- (`room` is a comparison of numbers: at 32 bits, 32 < 2 ^ 31)
 module _ (w : ℕ) (halves : 2 ^ w ≡ 2 ^ (w - 1) + 2 ^ (w - 1)) (room : w < 2 ^ (w - 1)) (o n : ℕ) (lo : o < 2 ^ w) (ln : n < 2 ^ w) where
   outside-is : outside w o n ≡ ltb w (o + n)
   unfolding outside
@@ -102,8 +103,8 @@ high-fits k h n p lh ln ep = omega (arith, joined-fits k h 0 n p p lh ln ep ep)
 pub joined-is : (h l n p q : ℕ) → p ≡ 2 ^ n → q ≡ 2 ^ n → h * p + l % q ≡ h * 2 ^ n + l % 2 ^ n
 joined-is h l n p q ep eq = cc
 
--- a word's bits above the field with the field under them, and the word's bits below the field under both
-module _ (w a b o n : ℕ) (l : a < 2 ^ w) (h : o + n ≤ w) where
+-- bits above a field with the field under them, and bits below the field under both
+module _ (w a b c o n : ℕ) (l : a < 2 ^ w) (h : o + n ≤ w) where
   pub above-fits : a / 2 ^ (o + n) < 2 ^ w
   above-fits = omega (arith, shr-le a (o + n))
 
@@ -117,18 +118,20 @@ module _ (w a b o n : ℕ) (l : a < 2 ^ w) (h : o + n ≤ w) where
     pub upper-fits : u < 2 ^ w
     upper-fits = lt-of-lt-of-le upper-lt (pow-mono (omega arith))
 
-    module _ (v : ℕ) (ev : v ≡ u * 2 ^ o + a % 2 ^ o) where
-      pub inserted-fits : v < 2 ^ w
-      inserted-fits =
-          let k : w - o + o ≡ w = omega arith in
-          rw (ev, ← k) (joined-below (w - o) u a o upper-lt)
+    pub inserted-fits : (v : ℕ) → v ≡ u * 2 ^ o + c % 2 ^ o → v < 2 ^ w
+    inserted-fits v ev =
+        let k : w - o + o ≡ w = omega arith in
+        rw (ev, ← k) (joined-below (w - o) u c o upper-lt)
 
-      pub inserted-is : v ≡ a / 2 ^ (o + n) * 2 ^ (o + n) + b % 2 ^ n * 2 ^ o + a % 2 ^ o
-      inserted-is =
-          let p : a / 2 ^ (o + n) * 2 ^ n * 2 ^ o ≡ a / 2 ^ (o + n) * 2 ^ (o + n) =
-          mul-assoc (a / 2 ^ (o + n)) (2 ^ n) (2 ^ o) ∙ ap (λ (k : ℕ). a / 2 ^ (o + n) * k) (sym (pow-add 2 n o) ∙ ap (λ (k : ℕ). 2 ^ k) (add-comm n o)) in
-          ev ∙ ap (λ (k : ℕ). k * 2 ^ o + a % 2 ^ o) eu
-          ∙ ap (λ (k : ℕ). k + a % 2 ^ o) (add-mul (a / 2 ^ (o + n) * 2 ^ n) (b % 2 ^ n) (2 ^ o) ∙ ap (λ (k : ℕ). k + b % 2 ^ n * 2 ^ o) p)
+-- both from the base, and the field from the insert
+pub inserted-is : (a b o n u v : ℕ) → u ≡ a / 2 ^ (o + n) * 2 ^ n + b % 2 ^ n → v ≡ u * 2 ^ o + a % 2 ^ o
+    → v ≡ a / 2 ^ (o + n) * 2 ^ (o + n) + b % 2 ^ n * 2 ^ o + a % 2 ^ o
+inserted-is a b o n u v eu ev =
+    let p : 2 ^ (o + n) ≡ 2 ^ n * 2 ^ o = ap (λ (k : ℕ). 2 ^ k) (add-comm o n) ∙ pow-add 2 n o in
+    ev ∙ ap (λ (k : ℕ). k * 2 ^ o + a % 2 ^ o) eu
+    ∙ ap (λ (k : ℕ). k + a % 2 ^ o) (add-mul (a / 2 ^ (o + n) * 2 ^ n) (b % 2 ^ n) (2 ^ o))
+    ∙ ap (λ (k : ℕ). k + b % 2 ^ n * 2 ^ o + a % 2 ^ o)
+    (mul-assoc (a / 2 ^ (o + n)) (2 ^ n) (2 ^ o) ∙ ap (λ (k : ℕ). a / 2 ^ (o + n) * k) (sym p))
 
 -- a field of n bits read as a signed number
 pow-halves : (n : ℕ) → zero < n → 2 ^ n ≡ 2 ^ (n - 1) + 2 ^ (n - 1)

@@ -24,7 +24,8 @@ bit-cases P z o (suc (suc x)) l = absurd (omega arith)
 module _ (a b i : ℕ) where
   by-bits : (P : ℕ → ℕ → Type 0) → P 0 0 → P 0 1 → P 1 0 → P 1 1 → P (bit a i) (bit b i)
   by-bits P zz zo oz oo =
-      bit-cases (λ x. P x (bit b i)) (bit-cases (P 0) zz zo (bit b i) (bit-lt b i)) (bit-cases (P 1) oz oo (bit b i) (bit-lt b i)) (bit a i) (bit-lt a i)
+      bit-cases (λ x. P x (bit b i)) (bit-cases (P 0) zz zo (bit b i) (bit-lt b i))
+      (bit-cases (P 1) oz oo (bit b i) (bit-lt b i)) (bit a i) (bit-lt a i)
 
   pub and-bit : bit (bitAnd a b) i ≡ min (bit a i) (bit b i)
   and-bit =

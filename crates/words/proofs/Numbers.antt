@@ -41,7 +41,8 @@ complement-shr j k x h =
     let rest : x % 2 ^ k < 2 ^ k = mod-lt x (pow-pos k) in
     let parts : x / 2 ^ k * 2 ^ k + x % 2 ^ k ≡ x = split x k in
     let q : 2 ^ j ≡ 2 ^ j - 1 - x / 2 ^ k + (x / 2 ^ k + 1) = omega arith in
-    let whole : 2 ^ (j + k) ≡ (2 ^ j - 1 - x / 2 ^ k) * 2 ^ k + (x / 2 ^ k + 1) * 2 ^ k = pow-add 2 j k ∙ ap (λ (p : ℕ). p * 2 ^ k) q ∙ add-mul (2 ^ j - 1 - x / 2 ^ k) (x / 2 ^ k + 1) (2 ^ k) in
-    let more : (x / 2 ^ k + 1) * 2 ^ k ≡ x / 2 ^ k * 2 ^ k + 2 ^ k = add-mul (x / 2 ^ k) 1 (2 ^ k) ∙ ap (λ (p : ℕ). x / 2 ^ k * 2 ^ k + p) (one-mul (2 ^ k)) in
+    let whole : 2 ^ (j + k) ≡ (2 ^ j - 1 - x / 2 ^ k) * 2 ^ k + (x / 2 ^ k + 1) * 2 ^ k =
+    pow-add 2 j k ∙ ap (λ (p : ℕ). p * 2 ^ k) q ∙ add-mul (2 ^ j - 1 - x / 2 ^ k) (x / 2 ^ k + 1) (2 ^ k) in
+    let more : (x / 2 ^ k + 1) * 2 ^ k ≡ x / 2 ^ k * 2 ^ k + 2 ^ k = simp (add-mul, one-mul) in
     let e : 2 ^ (j + k) - 1 - x ≡ (2 ^ j - 1 - x / 2 ^ k) * 2 ^ k + (2 ^ k - 1 - x % 2 ^ k) = omega arith in
     ap (λ (n : ℕ). n / 2 ^ k) e ∙ digits-div (2 ^ j - 1 - x / 2 ^ k) (omega arith)

@@ -43,7 +43,8 @@ module _ (w : ℕ) (halves : 2 ^ w ≡ 2 ^ (w - 1) + 2 ^ (w - 1)) where
   -- the upper half of a negative product: of -p modulo 2 ^ (w + w)
   minus-high : (p : ℕ) → p < 2 ^ (w + w) → neg (w + w) p / 2 ^ w ≡ word w (shrZ (negℤ (pos p)) (2 ^ w))
   minus-high zero h =
-      ap (λ (k : ℕ). k % 2 ^ (w + w) / 2 ^ w) (sub-zero (2 ^ (w + w))) ∙ ap (λ (k : ℕ). k / 2 ^ w) (mod-self (2 ^ (w + w))) ∙ zero-div (2 ^ w)
+      ap (λ (k : ℕ). k % 2 ^ (w + w) / 2 ^ w) (sub-zero (2 ^ (w + w)))
+      ∙ ap (λ (k : ℕ). k / 2 ^ w) (mod-self (2 ^ (w + w))) ∙ zero-div (2 ^ w)
       ∙ sym (ap (λ (k : ℕ). word w (pos k)) (zero-div (2 ^ w)) ∙ word-pos w halves 0 (pow-pos w))
   minus-high (suc q) h =
       let e : 2 ^ (w + w) - suc q ≡ 2 ^ (w + w) - 1 - q = omega arith in

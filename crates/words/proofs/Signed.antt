@@ -118,8 +118,10 @@ module _ (w : ℕ) (halves : 2 ^ w ≡ 2 ^ (w - 1) + 2 ^ (w - 1)) where
     pub slt-is : (x y : ℕ) → x ≡ add w a (2 ^ (w - 1)) → y ≡ add w b (2 ^ (w - 1)) → ltb x y ≡ slt w a b
     slt-is x y ex ey =
         by-sign a
-        (λ p. by-sign b (λ q. cc (moved-low a p, moved-low b q, moved-low-low p q)) (λ q. cc (moved-low a p, moved-high b q lb, moved-low-high p q)))
-        (λ p. by-sign b (λ q. cc (moved-high a p la, moved-low b q, moved-high-low p q)) (λ q. cc (moved-high a p la, moved-high b q lb, moved-high-high p q)))
+        (λ p. by-sign b (λ q. cc (moved-low a p, moved-low b q, moved-low-low p q))
+        (λ q. cc (moved-low a p, moved-high b q lb, moved-low-high p q)))
+        (λ p. by-sign b (λ q. cc (moved-high a p la, moved-low b q, moved-high-low p q))
+        (λ q. cc (moved-high a p la, moved-high b q lb, moved-high-high p q)))
 
   -- ---- the shift: a negative word's complement is shifted
 

@@ -12,4 +12,4 @@ inserted-spec =
     (λ c κs. search (needs, above-fits 32))
     (λ c κs. search (needs, upper-fits 32))
     (λ c. record { fits = search (needs, inserted-fits 32) })
-    (λ c. search (needs, inserted-is 32)))
+    (λ c. search (needs, inserted-is)))
