@@ -1,5 +1,5 @@
 -- Fields of bits: when one lies outside the word, and the parts that the code puts together.
-use Rattle.words.specs.Word.{bfi, ibfe, outside, signed, ubfe, word}
+use Rattle.words.specs.Word.{bfi, field, ibfe, outside, replaced, signed, ubfe, word}
 use Rattle.words.proofs.Signed.{by-sign, signed-high, signed-low, word-negsuc, word-pos}
 use Rattle.words.proofs.Numbers.{ltb-same}
 use Prim.Native.Nat.{_%_, _*_, _+_, _-_, _/_, _<_, _^_, _≤_, suc, zero, ℕ}
@@ -44,7 +44,7 @@ module _ (w a o n : ℕ) (r : Bool) (e : r ≡ outside w o n) where
   unfolding ubfe
   ubfe-out t = simp (sym e, t)
 
-  pub ubfe-in : (v : ℕ) → r ≡ false → v ≡ a / 2 ^ o % 2 ^ n → v ≡ ubfe w a o n
+  pub ubfe-in : (v : ℕ) → r ≡ false → v ≡ field a o n → v ≡ ubfe w a o n
   unfolding ubfe
   ubfe-in v t h = simp (sym e, t) h
 
@@ -56,7 +56,7 @@ module _ (w a o n : ℕ) (r : Bool) (e : r ≡ outside w o n) where
   unfolding ibfe
   ibfe-none t z = simp (sym e, t, eq-eqb n 0 z)
 
-  pub ibfe-in : (v x : ℕ) → r ≡ false → (n ≡ 0 → ⊥) → v ≡ a / 2 ^ o % 2 ^ n → x ≡ word w (signed n v) → x ≡ ibfe w a o n
+  pub ibfe-in : (v x : ℕ) → r ≡ false → (n ≡ 0 → ⊥) → v ≡ field a o n → x ≡ word w (signed n v) → x ≡ ibfe w a o n
   unfolding ibfe
   ibfe-in v x t z h k = simp (sym e, t, ne-eqb n 0 z) (k ∙ ap (λ (v : ℕ). word w (signed n v)) h)
 
@@ -65,8 +65,7 @@ module _ (w a b o n : ℕ) (r : Bool) (e : r ≡ outside w o n) where
   unfolding bfi
   bfi-out t = simp (sym e, t)
 
-  pub bfi-in : (v : ℕ) → r ≡ false
-      → v ≡ a / 2 ^ (o + n) * 2 ^ (o + n) + b % 2 ^ n * 2 ^ o + a % 2 ^ o → v ≡ bfi w a b o n
+  pub bfi-in : (v : ℕ) → r ≡ false → v ≡ replaced a b o n → v ≡ bfi w a b o n
   unfolding bfi
   bfi-in v t h = simp (sym e, t) h
 
@@ -83,11 +82,11 @@ power-pos n p e = rw e (pow-pos n)
 pub cut-fits : (w a o p : ℕ) → a < 2 ^ w → a / 2 ^ o % p < 2 ^ w
 cut-fits w a o p l = omega (arith, mod-le (a / 2 ^ o) p, shr-le a o)
 
-pub cut-is : (a o n p : ℕ) → p ≡ 2 ^ n → a / 2 ^ o % p ≡ a / 2 ^ o % 2 ^ n
+pub cut-is : (a o n p : ℕ) → p ≡ 2 ^ n → a / 2 ^ o % p ≡ field a o n
 cut-is a o n p e = ap (λ (k : ℕ). a / 2 ^ o % k) e
 
 -- and has the bits that it says
-pub cut-lt : (a o n v : ℕ) → v ≡ a / 2 ^ o % 2 ^ n → v < 2 ^ n
+pub cut-lt : (a o n v : ℕ) → v ≡ field a o n → v < 2 ^ n
 cut-lt a o n v e = rw e (mod-lt (a / 2 ^ o) (pow-pos n))
 
 -- two numbers put together: the lower one has n bits, and the upper one k
@@ -125,7 +124,7 @@ module _ (w a b c o n : ℕ) (l : a < 2 ^ w) (h : o + n ≤ w) where
 
 -- both from the base, and the field from the insert
 pub inserted-is : (a b o n u v : ℕ) → u ≡ a / 2 ^ (o + n) * 2 ^ n + b % 2 ^ n → v ≡ u * 2 ^ o + a % 2 ^ o
-    → v ≡ a / 2 ^ (o + n) * 2 ^ (o + n) + b % 2 ^ n * 2 ^ o + a % 2 ^ o
+    → v ≡ replaced a b o n
 inserted-is a b o n u v eu ev =
     let p : 2 ^ (o + n) ≡ 2 ^ n * 2 ^ o = ap (λ (k : ℕ). 2 ^ k) (add-comm o n) ∙ pow-add 2 n o in
     ev ∙ ap (λ (k : ℕ). k * 2 ^ o + a % 2 ^ o) eu

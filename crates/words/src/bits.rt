@@ -4,36 +4,42 @@ ghost use mathlib.Core.Path.{_≡_};
 ghost use lib.Bits.{bitAnd, bitOr, bitXor};
 ghost use Rattle.words.specs.Word.{compl, popc, lsb, umsb, imsb, brev};
 
+// AND, ATOMAND.
 pub fn and32(a: u32, b: u32) -> u32
     ensures { λ r. ⌜ r ≡ bitAnd a b ⌝ }
 {
     a & b
 }
 
+// OR, ATOMOR.
 pub fn or32(a: u32, b: u32) -> u32
     ensures { λ r. ⌜ r ≡ bitOr a b ⌝ }
 {
     a | b
 }
 
+// XOR, ATOMXOR.
 pub fn xor32(a: u32, b: u32) -> u32
     ensures { λ r. ⌜ r ≡ bitXor a b ⌝ }
 {
     a ^ b
 }
 
+// NOT.
 pub fn not32(a: u32) -> u32
     ensures { λ r. ⌜ r ≡ compl 32 a ⌝ }
 {
     !a
 }
 
+// POPC.
 pub fn popc32(a: u32) -> u32
     ensures { λ r. ⌜ r ≡ popc 32 a ⌝ }
 {
     u32::count_ones(a)
 }
 
+// LSB.
 pub fn lsb32(a: u32) -> u32
     ensures { λ r. ⌜ r ≡ lsb 32 a ⌝ }
 {
@@ -44,6 +50,7 @@ pub fn lsb32(a: u32) -> u32
     }
 }
 
+// UMSB.
 pub fn umsb32(a: u32) -> u32
     ensures { λ r. ⌜ r ≡ umsb 32 a ⌝ }
 {
@@ -54,14 +61,14 @@ pub fn umsb32(a: u32) -> u32
     }
 }
 
-// The highest 0 of a negative word is the highest 1 of its complement.
+// IMSB. The highest 0 of a negative word is the highest 1 of its complement.
 pub fn imsb32(a: u32) -> u32
     ensures { λ r. ⌜ r ≡ imsb 32 a ⌝ }
 {
     if a < LEAST32 { umsb32(a) } else { umsb32(!a) }
 }
 
-// The bits are taken from the bottom of `left` and put at the bottom of `done`.
+// BREV. The bits are taken from the bottom of `left` and put at the bottom of `done`.
 pub fn brev32(a: u32) -> u32
     ensures { λ r. ⌜ r ≡ brev 32 a ⌝ }
 {

@@ -8,30 +8,35 @@ use super::sums::neg64;
 ghost use mathlib.Core.Path.{_≡_};
 ghost use Rattle.words.specs.Word.{udiv, urem, sdiv, srem};
 
+// UDIV.
 pub fn udiv32(a: u32, b: u32) -> u32
     ensures { λ r. ⌜ r ≡ udiv 32 a b ⌝ }
 {
     if b == 0 { u32::MAX } else { a / b }
 }
 
+// U64DIV.
 pub fn udiv64(a: u64, b: u64) -> u64
     ensures { λ r. ⌜ r ≡ udiv 64 a b ⌝ }
 {
     if b == 0 { u64::MAX } else { a / b }
 }
 
+// UMOD.
 pub fn urem32(a: u32, b: u32) -> u32
     ensures { λ r. ⌜ r ≡ urem 32 a b ⌝ }
 {
     if b == 0 { u32::MAX } else { a % b }
 }
 
+// U64MOD.
 pub fn urem64(a: u64, b: u64) -> u64
     ensures { λ r. ⌜ r ≡ urem 64 a b ⌝ }
 {
     if b == 0 { u64::MAX } else { a % b }
 }
 
+// IDIV.
 pub fn sdiv32(a: u32, b: u32) -> u32
     ensures { λ r. ⌜ r ≡ sdiv 32 a b ⌝ }
 {
@@ -46,6 +51,7 @@ pub fn sdiv32(a: u32, b: u32) -> u32
     }
 }
 
+// I64DIV.
 pub fn sdiv64(a: u64, b: u64) -> u64
     ensures { λ r. ⌜ r ≡ sdiv 64 a b ⌝ }
 {
@@ -60,6 +66,7 @@ pub fn sdiv64(a: u64, b: u64) -> u64
     }
 }
 
+// MOD.
 pub fn srem32(a: u32, b: u32) -> u32
     ensures { λ r. ⌜ r ≡ srem 32 a b ⌝ }
 {
@@ -70,6 +77,7 @@ pub fn srem32(a: u32, b: u32) -> u32
     if a < LEAST32 { m } else { neg32(m) }
 }
 
+// I64MOD.
 pub fn srem64(a: u64, b: u64) -> u64
     ensures { λ r. ⌜ r ≡ srem 64 a b ⌝ }
 {

@@ -1,9 +1,10 @@
-// Fields of bits. UBFE, IBFE and BFI have one function each; below them stand the test and the parts
-// that they share, over numbers of 64 bits, so that 2^32 is one.
+// Fields of bits. UBFE, IBFE and BFI have one function each; the test that they share and their
+// parts stand below. The parts are numbers of 64 bits, so that 2^32 fits.
 ghost use mathlib.Core.Path.{_≡_};
-ghost use Prim.Native.Nat.{_+_, _*_, _/_, _%_, _^_, _<_, _≤_};
-ghost use Rattle.words.specs.Word.{signed, word, outside, ubfe, ibfe, bfi};
+ghost use Prim.Native.Nat.{_+_, _*_, _%_, _^_, _<_, _≤_};
+ghost use Rattle.words.specs.Word.{signed, word, outside, field, replaced, ubfe, ibfe, bfi};
 
+// UBFE.
 pub fn ubfe32(a: u32, offset: u32, bits: u32) -> u32
     ensures { λ r. ⌜ r ≡ ubfe 32 a offset bits ⌝ }
 {
@@ -14,6 +15,7 @@ pub fn ubfe32(a: u32, offset: u32, bits: u32) -> u32
     }
 }
 
+// IBFE.
 pub fn ibfe32(a: u32, offset: u32, bits: u32) -> u32
     ensures { λ r. ⌜ r ≡ ibfe 32 a offset bits ⌝ }
 {
@@ -26,6 +28,7 @@ pub fn ibfe32(a: u32, offset: u32, bits: u32) -> u32
     extended(cut(a, offset, bits), bits)
 }
 
+// BFI.
 pub fn bfi32(base: u32, insert: u32, offset: u32, bits: u32) -> u32
     ensures { λ r. ⌜ r ≡ bfi 32 base insert offset bits ⌝ }
 {
@@ -36,7 +39,7 @@ pub fn bfi32(base: u32, insert: u32, offset: u32, bits: u32) -> u32
     }
 }
 
-// Whether the field does not lie in the word. A negative number is over 32 as a word.
+// Whether the field does not lie within the word. A negative number is over 32 as a word.
 fn is_outside(offset: u32, bits: u32) -> bool
     ensures { λ r. ⌜ r ≡ outside 32 offset bits ⌝ }
 {
@@ -50,27 +53,27 @@ fn is_outside(offset: u32, bits: u32) -> bool
 // The field as an unsigned number.
 fn cut(a: u32, offset: u32, bits: u32) -> u32
     requires { ⌜ offset + bits ≤ 32 ⌝ }
-    ensures { λ r. ⌜ r ≡ a / 2 ^ offset % 2 ^ bits ⌝ }
+    ensures { λ r. ⌜ r ≡ field a offset bits ⌝ }
 {
     (((a as u64) >> offset) % power(bits)) as u32
 }
 
 // A number of `bits` bits with its sign bit in all bits above it.
-fn extended(field: u32, bits: u32) -> u32
-    requires { ⌜ (0 < bits) × (bits ≤ 32) × (field < 2 ^ bits) ⌝ }
-    ensures { λ r. ⌜ r ≡ word 32 (signed bits field) ⌝ }
+fn extended(part: u32, bits: u32) -> u32
+    requires { ⌜ (0 < bits) × (bits ≤ 32) × (part < 2 ^ bits) ⌝ }
+    ensures { λ r. ⌜ r ≡ word 32 (signed bits part) ⌝ }
 {
-    if (field as u64) < power(bits - 1) {
-        field
+    if (part as u64) < power(bits - 1) {
+        part
     } else {
-        !((power(bits) - 1 - field as u64) as u32)
+        !((power(bits) - 1 - part as u64) as u32)
     }
 }
 
 // The base with the field taken from the low bits of `insert`.
 fn inserted(base: u32, insert: u32, offset: u32, bits: u32) -> u32
     requires { ⌜ offset + bits ≤ 32 ⌝ }
-    ensures { λ r. ⌜ r ≡ base / 2 ^ (offset + bits) * 2 ^ (offset + bits) + insert % 2 ^ bits * 2 ^ offset + base % 2 ^ offset ⌝ }
+    ensures { λ r. ⌜ r ≡ replaced base insert offset bits ⌝ }
 {
     let above = (base as u64) >> (offset + bits);
     joined(joined(above, insert as u64, bits), base as u64, offset) as u32
