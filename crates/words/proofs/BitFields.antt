@@ -16,7 +16,7 @@ use lib.Arith.{digits-lt}
 
 -- (`room` is a comparison of numbers: at 32 bits, 32 < 2 ^ 31)
 module _ (w : ℕ) (halves : 2 ^ w ≡ 2 ^ (w - 1) + 2 ^ (w - 1)) (room : w < 2 ^ (w - 1)) (o n : ℕ) (lo : o < 2 ^ w) (ln : n < 2 ^ w) where
-  outside-is : outside w o n ≡ ltb w (o + n)
+  pub outside-is : outside w o n ≡ ltb w (o + n)
   unfolding outside
   outside-is =
       by-sign w halves o
