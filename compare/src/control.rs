@@ -4,6 +4,7 @@ use crate::machine::REGISTER_WORDS;
 use crate::runner::{Answer, Runner};
 use crate::vectors::{holds, register_start, word, Expected};
 use crate::write::from_hex;
+use std::fmt;
 
 pub const CONTROL: &str = include_str!("../vectors/control.txt");
 
@@ -22,6 +23,12 @@ pub struct Totals {
     pub programs: usize,
     pub ends: usize,
     pub halts: usize,
+}
+
+impl fmt::Display for Totals {
+    fn fmt(&self, f: &mut fmt::Formatter) -> fmt::Result {
+        write!(f, "{} programs with {} ends and {} halts", self.programs, self.ends, self.halts)
+    }
 }
 
 fn number(text: &str) -> usize {

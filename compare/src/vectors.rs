@@ -92,9 +92,8 @@ impl Line {
             kinds::STORE => write::destination(MEM, 0, self.mask),
             _ => write::destination(TEMP, 0, self.mask),
         };
-        let source = |(i, (negate, _)): (usize, &(bool, _))| {
-            write::source(file, i as u16, write::STRAIGHT, *negate as u8)
-        };
+        let source =
+            |(i, (negate, _)): (usize, &(bool, _))| write::source(file, i as u16, write::STRAIGHT, *negate as u8);
         let sources: Vec<_> = self.sources.iter().enumerate().map(source).collect();
         bytes.extend(write::instruction(self.kind.byte, destination, &sources));
         bytes.extend(write::mark(kinds::END));
