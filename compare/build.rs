@@ -19,6 +19,5 @@ fn main() {
     }
     // The linker is handed the archive itself: its name need not be of the form libNAME.a.
     println!("cargo:rustc-cfg=product");
-    println!("cargo:rustc-link-arg-bins={}", archive.display());
-    println!("cargo:rustc-link-arg-tests={}", archive.display());
+    println!("cargo:rustc-link-arg={}", archive.display());
 }

@@ -14,53 +14,65 @@ const PROGRAMS: [(&str, &str); 3] = [
     ("bench3", include_str!("../vectors/bench3.hex")),
 ];
 
-/// The programs count to IN[0].x; so many rounds take well over 50 ms.
-const ROUNDS: u32 = 400_000;
+/// The programs count to IN[0].x; so many rounds take over 50 ms.
+const ROUNDS: u32 = 800_000;
 const REPEATS: usize = 7;
 
-/// The least time of several, in seconds, of what is to be done; a disturbance only adds.
-fn least_time(mut work: impl FnMut()) -> f64 {
-    let time = |_| {
-        let start = Instant::now();
-        work();
-        start.elapsed().as_secs_f64()
-    };
-    (0..REPEATS).map(time).fold(f64::INFINITY, f64::min)
+/// The time of some work in seconds.
+fn time(work: impl FnOnce()) -> f64 {
+    let start = Instant::now();
+    work();
+    start.elapsed().as_secs_f64()
 }
 
-/// A whole run: the answer, the words it leaves, and its least time.
-fn measure(runner: &dyn Runner, file: &[u8]) -> (Answer, Vec<u32>, f64) {
+/// The least time of several: a disturbance only adds.
+fn least_time(mut work: impl FnMut()) -> f64 {
+    (0..REPEATS).map(|_| time(&mut work)).fold(f64::INFINITY, f64::min)
+}
+
+/// One whole run: the answer, the words it leaves, and its time.
+fn run(runner: &dyn Runner, file: &[u8]) -> (Answer, Vec<u32>, f64) {
     let (mut registers, mut work) = (vec![0; REGISTER_WORDS], vec![0; 3 * 1024]);
     let mut memory = vec![0; MOST_MEMORY];
     let mut answer = Answer::done(0);
-    let time = least_time(|| {
-        memory.fill(0);
-        let (inputs, constants) = (&[ROUNDS, 0, 0, 0], &[]);
-        let lent = Lent { inputs, constants, registers: &mut registers, work: &mut work, memory: &mut memory };
-        answer = runner.run(file, lent, u32::MAX);
-    });
+    let (inputs, constants) = (&[ROUNDS, 0, 0, 0], &[]);
+    let lent = Lent { inputs, constants, registers: &mut registers, work: &mut work, memory: &mut memory };
+    let time = time(|| answer = runner.run(file, lent, u32::MAX));
     registers.append(&mut memory);
     (answer, registers, time)
 }
 
-/// Runs the benchmark; false if the runners do not leave the same.
+/// Measures a program; false if the runners do not leave the same. They take turns, so that a busy machine is busy
+/// for all of them.
+fn bench_program(runners: &[&dyn Runner], file: &[u8]) -> bool {
+    let (wanted, words, _) = run(runners[0], file);
+    let mut same = true;
+    let mut least = vec![f64::INFINITY; runners.len()];
+    for _ in 0..REPEATS {
+        for (runner, least) in runners.iter().zip(&mut least) {
+            let (answer, left, time) = run(*runner, file);
+            same &= answer == wanted && left == words;
+            *least = least.min(time);
+        }
+    }
+    for (runner, time) in runners.iter().zip(&least) {
+        let (rate, ratio) = (wanted.first as f64 / time / 1e6, time / least[0]);
+        println!("  {:18} {:6.1} ms, {rate:6.1} million steps a second, ratio {ratio:.2}", runner.name(), time * 1e3);
+    }
+    same
+}
+
+/// Runs the benchmark. The ratio is a runner's time per step over the plain interpreter's.
 pub fn bench(product: Option<&dyn Runner>, second: &dyn Runner, plain: &dyn Runner) -> bool {
     let mut same = true;
+    let runners: Vec<&dyn Runner> = [plain].into_iter().chain(product).chain([second]).collect();
     for (name, text) in PROGRAMS {
         let file = from_hex(text);
-        let (answer, words, plain_time) = measure(plain, &file);
-        println!("{name}: {} steps", answer.first);
-        let report = |runner: &dyn Runner, time: f64| {
-            let rate = answer.first as f64 / time / 1e6;
-            println!("  {:18} {rate:8.1} million steps per second, {:6.1} ms", runner.name(), time * 1e3);
-        };
-        report(plain, plain_time);
-        for runner in product.into_iter().chain([second]) {
-            let (other, left, time) = measure(runner, &file);
-            report(runner, time);
-            println!("  {:18} {:8.2} times the plain interpreter's time per step", "", time / plain_time);
-            same &= other == answer && left == words;
-        }
+        println!("{name}: {} bytes, {} steps", file.len(), run(plain, &file).0.first);
+        same &= bench_program(&runners, &file);
+    }
+    if !same {
+        println!("the runners do not leave the same words");
     }
     for (name, file) in largest_files() {
         println!("{name}: {} bytes", file.len());

@@ -146,3 +146,39 @@ impl Counts {
         complete && kinds::ALL.iter().all(|kind| carried_out[kind.byte as usize] > 0)
     }
 }
+
+#[cfg(test)]
+mod tests {
+    use super::*;
+    use crate::run::Second;
+
+    fn change<T: Copy + std::ops::Not<Output = T>>(buffer: &mut Guarded<T>, at: usize) {
+        buffer.0[at] = !buffer.0[at];
+    }
+
+    /// One changed word is found in every buffer, read-only ones and guards among them.
+    #[test]
+    fn every_word_is_compared() {
+        let case = Case::new(5, 7);
+        let made = || outcome(&Second::new(), &case);
+        let wanted = made();
+        assert!(difference(&made(), &wanted).is_none());
+        for i in 0..5 {
+            for at in 0..wanted.words[i].0.len() {
+                let mut other = made();
+                change(&mut other.words[i], at);
+                assert!(difference(&other, &wanted).is_some_and(|text| text.starts_with(WORDS[i])));
+            }
+        }
+        for at in 0..wanted.prepared.0.len() {
+            let mut other = made();
+            change(&mut other.prepared, at);
+            assert!(difference(&other, &wanted).is_some_and(|text| text.starts_with("prepared")));
+        }
+        for at in 0..wanted.file.0.len() {
+            let mut other = made();
+            change(&mut other.file, at);
+            assert!(difference(&other, &wanted).is_some());
+        }
+    }
+}

@@ -84,6 +84,22 @@ fn pairs(register: Register) -> [u64; 2] {
     [register[0] as u64 | (register[1] as u64) << 32, register[2] as u64 | (register[3] as u64) << 32]
 }
 
+/// The number of the word at a byte address and 4i; that of a misaligned one is outside.
+#[inline]
+fn word(address: u32, i: usize) -> usize {
+    if address % 4 == 0 {
+        address as usize / 4 + i
+    } else {
+        usize::MAX
+    }
+}
+
+/// Four words by component, written out: the arrays' own `map` is not always unrolled.
+#[inline(always)]
+fn four(f: impl Fn(usize) -> u32) -> Register {
+    [f(0), f(1), f(2), f(3)]
+}
+
 impl Interpreter<'_> {
     fn run(&mut self, budget: u32) -> Answer {
         let (file, rows) = (self.file, self.rows);
@@ -123,7 +139,7 @@ impl Interpreter<'_> {
         after
     }
 
-    #[inline]
+    #[inline(always)]
     fn source(&self, operand: &[u8]) -> Register {
         let (file, swizzle, modifier) = (operand[0], operand[3] as usize, operand[4]);
         let mut i = index(operand);
@@ -141,15 +157,15 @@ impl Interpreter<'_> {
             TEMP => register_at(self.registers, TEMP_WORDS + 4 * i),
             _ => register_at(self.immediates, 4 * i),
         };
-        let picked = [0, 2, 4, 6].map(|shift| register[swizzle >> shift & 3]);
+        let [x, y, z, w] = four(|i| register[swizzle >> (2 * i) & 3]);
         if modifier & 1 == 1 {
-            picked.map(u32::wrapping_neg)
+            [x.wrapping_neg(), y.wrapping_neg(), z.wrapping_neg(), w.wrapping_neg()]
         } else {
-            picked
+            [x, y, z, w]
         }
     }
 
-    #[inline]
+    #[inline(always)]
     fn write(&mut self, record: &[u8], result: Register) {
         let start = match record[1] {
             OUT => 4 * index(&record[1..]),
@@ -167,20 +183,20 @@ impl Interpreter<'_> {
     #[inline]
     fn one(&mut self, record: &[u8], f: impl Fn(u32) -> u32) {
         let a = self.source(&record[5..10]);
-        self.write(record, a.map(f));
+        self.write(record, four(|i| f(a[i])));
     }
 
     #[inline]
     fn two(&mut self, record: &[u8], f: impl Fn(u32, u32) -> u32) {
         let (a, b) = (self.source(&record[5..10]), self.source(&record[10..15]));
-        self.write(record, [f(a[0], b[0]), f(a[1], b[1]), f(a[2], b[2]), f(a[3], b[3])]);
+        self.write(record, four(|i| f(a[i], b[i])));
     }
 
     #[inline]
     fn three(&mut self, record: &[u8], f: impl Fn(u32, u32, u32) -> u32) {
         let (a, b) = (self.source(&record[5..10]), self.source(&record[10..15]));
         let c = self.source(&record[15..20]);
-        self.write(record, [0, 1, 2, 3].map(|i| f(a[i], b[i], c[i])));
+        self.write(record, four(|i| f(a[i], b[i], c[i])));
     }
 
     #[inline]
@@ -246,7 +262,7 @@ impl Interpreter<'_> {
 
     fn bit_field_insert(&mut self, r: &[u8]) {
         let s = [5, 10, 15, 20].map(|at| self.source(&r[at..at + 5]));
-        self.write(r, [0, 1, 2, 3].map(|i| bfi(s[0][i], s[1][i], s[2][i], s[3][i])));
+        self.write(r, four(|i| bfi(s[0][i], s[1][i], s[2][i], s[3][i])));
     }
 
     fn shift(&mut self, kind: u8, r: &[u8]) {
@@ -255,23 +271,16 @@ impl Interpreter<'_> {
         self.write(r, [low as u32, (low >> 32) as u32, high as u32, (high >> 32) as u32]);
     }
 
-    /// The word at a byte address and 4i; a misaligned one is given as outside.
-    #[inline]
-    fn word(&mut self, address: u32, i: usize) -> Option<&mut u32> {
-        let at = if address % 4 == 0 { address as usize / 4 + i } else { usize::MAX };
-        self.memory.get_mut(at)
-    }
-
     fn load(&mut self, r: &[u8]) {
         let address = self.source(&r[5..10])[0];
-        let result = [0, 1, 2, 3].map(|i| self.word(address, i).map_or(0, |word| *word));
+        let result = four(|i| self.memory.get(word(address, i)).copied().unwrap_or(0));
         self.write(r, result);
     }
 
     fn store(&mut self, r: &[u8]) {
         let (address, value) = (self.source(&r[5..10])[0], self.source(&r[10..15]));
         for i in (0..4).filter(|i| r[4] >> i & 1 == 1) {
-            if let Some(word) = self.word(address, i) {
+            if let Some(word) = self.memory.get_mut(word(address, i)) {
                 *word = value[i];
             }
         }
@@ -280,7 +289,7 @@ impl Interpreter<'_> {
     fn atomic(&mut self, kind: u8, r: &[u8]) {
         let (address, operand) = (self.source(&r[5..10])[0], self.source(&r[10..15])[0]);
         let new = if kind == ATOMCAS { self.source(&r[15..20])[0] } else { 0 };
-        let old = match self.word(address, 0) {
+        let old = match self.memory.get_mut(word(address, 0)) {
             Some(word) => std::mem::replace(word, atomic(kind, *word, operand, new)),
             None => 0,
         };
