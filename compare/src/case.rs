@@ -32,8 +32,13 @@ impl Case {
             None => (random.below(40), random.below(40)),
         };
         let work = program.as_ref().map_or(9, |program| 3 * program.instructions.len());
-        let lengths = [inputs, constants, REGISTER_WORDS, work].map(|needed| length_near(random, needed));
-        let memory = memory_length(random);
+        let wrong = random.chance(2);
+        let lengths = [inputs, constants, REGISTER_WORDS, work].map(|needed| match wrong {
+            // Several are short at once, so that the order of these refusals is seen.
+            true => needed.saturating_sub(random.below(2)),
+            false => length_near(random, needed),
+        });
+        let memory = if wrong { MOST_MEMORY + random.below(2) } else { memory_length(random) };
         Case {
             inputs: (0..lengths[0]).map(|_| random.small_word()).collect(),
             constants: (0..lengths[1]).map(|_| random.small_word()).collect(),

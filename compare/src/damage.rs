@@ -82,10 +82,7 @@ pub fn aim(random: &mut Random, draft: &mut Draft, number: u32) {
         9 => undeclare(random, draft),
         10 => break_nesting(random, draft),
         11 => break_switch(random, draft),
-        12 => {
-            let levels = random.from_to(15, 18);
-            *draft = blocks::deep_program(random, levels);
-        }
+        12 => nest_deeply(random, draft),
         _ => drop(draft.records.pop()),
     }
 }
@@ -93,6 +90,21 @@ pub fn aim(random: &mut Random, draft: &mut Draft, number: u32) {
 /// The place of some instruction's record, END among them.
 fn some_instruction(random: &mut Random, draft: &Draft) -> usize {
     random.from_to(draft.head.min(draft.records.len() - 1), draft.records.len() - 1)
+}
+
+/// A program about as deep as is allowed; or a SWITCH as 16th block, with the 17th in the place of its first label.
+fn nest_deeply(random: &mut Random, draft: &mut Draft) {
+    if random.chance(80) {
+        let levels = random.from_to(15, 18);
+        *draft = blocks::deep_program(random, levels);
+        return;
+    }
+    let of_immediate = write::source(IMM, 0, 0, 0);
+    let uif = write::control(UIF, of_immediate);
+    let mut records = vec![uif.clone(); random.from_to(14, 16)];
+    records.push(write::control(SWITCH, of_immediate));
+    records.push(if random.chance(50) { uif } else { write::mark(BGNLOOP) });
+    draft.records.splice(draft.head..draft.head, records);
 }
 
 fn add_tail(random: &mut Random, draft: &mut Draft) {
@@ -123,8 +135,17 @@ fn too_many(random: &mut Random, draft: &mut Draft) {
     if random.chance(50) {
         let wanted = random.from_to(1024, 1026);
         let missing = wanted.saturating_sub(draft.records.len() - draft.head);
-        let at = some_instruction(random, draft).min(draft.head);
-        draft.records.splice(at..at, vec![write::mark(NOP); missing]);
+        draft.records.splice(draft.head..draft.head, vec![write::mark(NOP); missing]);
+        if random.chance(50) {
+            // The one too many breaks another rule as well.
+            let mov = |mask, index| {
+                let destination = write::destination(TEMP, index, mask);
+                write::instruction(MOV, destination, &[write::source(IMM, 0, 0, 0)])
+            };
+            let other = [mov(0, 0), mov(1, 300), write::mark(ENDIF), write::declaration(IN, 9, 8)];
+            let at = draft.records.len().min(draft.head + 1024);
+            draft.records.insert(at, other[random.below(4)].clone());
+        }
     } else {
         let made = draft.records.iter().filter(|record| record[0] == IMMEDIATE).count();
         let missing = random.from_to(256, 258).saturating_sub(made);
@@ -148,7 +169,8 @@ fn ruled_bytes(record: &[u8]) -> Vec<usize> {
 
 fn break_field(random: &mut Random, draft: &mut Draft) {
     for _ in 0..20 {
-        let at = random.below(draft.records.len());
+        let anywhere = random.chance(30);
+        let at = if anywhere { random.below(draft.records.len()) } else { some_instruction(random, draft) };
         let mut offsets = ruled_bytes(&draft.records[at]);
         // An earlier fault may have put in less than a whole record.
         offsets.retain(|&offset| offset < draft.records[at].len());
@@ -173,16 +195,25 @@ fn overlap(random: &mut Random, draft: &mut Draft) {
     draft.head += 1;
 }
 
-/// Takes a declaration or immediate away, or changes an operand's index.
+/// Takes a declaration or immediate away, makes a source indirect, or changes an operand's index.
 fn undeclare(random: &mut Random, draft: &mut Draft) {
-    if draft.head > 0 && random.chance(50) {
+    if draft.head > 0 && random.chance(40) {
         draft.records.remove(random.below(draft.head));
         draft.head -= 1;
         return;
     }
     let at = some_instruction(random, draft);
     let record = &mut draft.records[at];
-    let operand = if record.len() == 6 || random.chance(30) { 1 } else { 5 };
+    let is_control = record.len() == 6;
+    if random.chance(50) {
+        let first = if is_control { 1 } else { 5 };
+        if first + 4 < record.len() {
+            record[first] = random.pick(&[CONST, TEMP]);
+            record[first + 4] = 2 * random.from_to(1, 4) as u8;
+        }
+        return;
+    }
+    let operand = if is_control || random.chance(30) { 1 } else { 5 };
     if operand + 2 < record.len() {
         record[operand + 1] = random.next() as u8;
         record[operand + 2] = if random.chance(80) { 0 } else { random.next() as u8 };

@@ -21,6 +21,9 @@ impl Draft {
 /// The immediate every program begins with. Loops count with it, and selectors are likely to meet it.
 pub const SMALL: [u32; 4] = [0, 1, 2, 3];
 
+/// The swizzle zwxy, which leaves pairs whole.
+const CROSSED: u8 = 0b01_00_11_10;
+
 pub struct Maker<'a> {
     pub random: &'a mut Random,
     /// The registers declared so far, by file.
@@ -88,13 +91,23 @@ impl<'a> Maker<'a> {
         self.records.push(write::immediate(words));
     }
 
-    /// Byte addresses, mostly aligned and low, or words of any kind.
+    /// Byte addresses, mostly aligned and low, some at the end of all addresses; 64-bit values at their bounds; or
+    /// words of any kind.
     fn immediate_words(&mut self) -> [u32; 4] {
-        let are_addresses = self.random.chance(40);
-        std::array::from_fn(|_| match self.random.below(8) {
-            0..=6 if are_addresses => 4 * self.random.below(24) as u32,
-            _ => self.random.word(),
-        })
+        const LEAST: [u32; 2] = [0, 0x8000_0000];
+        const MINUS_ONE: [u32; 2] = [0xFFFF_FFFF; 2];
+        match self.random.below(10) {
+            0..=3 => std::array::from_fn(|_| match self.random.below(10) {
+                0 => (4 * self.random.from_to(1, 4) as u32).wrapping_neg(),
+                1 => self.random.word(),
+                _ => 4 * self.random.below(24) as u32,
+            }),
+            4 | 5 => {
+                let [a, b] = [0; 2].map(|_| self.random.pick(&[LEAST, MINUS_ONE, [0, 0], [1, 0]]));
+                [a[0], a[1], b[0], b[1]]
+            }
+            _ => std::array::from_fn(|_| self.random.word()),
+        }
     }
 
     /// One to three ranges of a file, with gaps, mostly at its beginning.
@@ -127,7 +140,8 @@ impl<'a> Maker<'a> {
     fn swizzle(&mut self) -> u8 {
         match self.random.below(10) {
             0..=3 => write::STRAIGHT,
-            4..=6 => 0b0101_0101 * self.random.below(4) as u8,
+            4 => CROSSED,
+            5 | 6 => 0b0101_0101 * self.random.below(4) as u8,
             _ => self.random.next() as u8,
         }
     }

@@ -39,8 +39,9 @@ impl Random {
 
     /// A word: often small or near a bound, where instructions have their corners.
     pub fn word(&mut self) -> u32 {
+        // 80000010 twice is 32 modulo 2^32: a bit field that seems to fit.
         const CORNERS: [u32; 12] =
-            [0, 1, 2, 31, 32, 33, 63, 0x7FFF_FFFF, 0x8000_0000, 0x8000_0001, 0xFFFF_FFFE, 0xFFFF_FFFF];
+            [0, 1, 31, 32, 33, 63, 0x7FFF_FFFF, 0x8000_0000, 0x8000_0001, 0x8000_0010, 0xFFFF_FFFE, 0xFFFF_FFFF];
         match self.below(10) {
             0..=2 => self.below(40) as u32,
             3 => (self.below(40) as u32).wrapping_neg(),
