@@ -102,7 +102,7 @@ impl Maker<'_> {
     /// CASE records of different values, in any order.
     fn cases(&mut self) -> Vec<Vec<u8>> {
         let most = if self.random.chance(3) { 60 } else { 4 };
-        let tries = self.random.from_to(1, most);
+        let tries = self.random.between(1, most);
         let mut values = vec![];
         let mut cases = vec![];
         for _ in 0..tries {

@@ -62,7 +62,7 @@ fn some_program(random: &mut Random) -> Draft {
     };
     match random.below(20) {
         0 => {
-            let levels = random.from_to(3, 16);
+            let levels = random.between(3, 16);
             blocks::deep_program(random, levels)
         }
         _ => blocks::program(random, limit),
@@ -75,8 +75,8 @@ fn file(random: &mut Random) -> Vec<u8> {
         55..=74 => {
             let mut draft = some_program(random);
             // With two faults the one that is due first is given.
-            for _ in 0..random.from_to(1, 2) {
-                let number = random.from_to(2, 13) as u32;
+            for _ in 0..random.between(1, 2) {
+                let number = random.between(2, 13) as u32;
                 if !draft.records.is_empty() && draft.head > 0 && draft.head < draft.records.len() {
                     damage::aim(random, &mut draft, number);
                 }
@@ -104,10 +104,10 @@ fn odd_file(random: &mut Random) -> Vec<u8> {
         0 => vec![],
         1 | 2 => {
             let mut file = some_program(random).bytes();
-            file.resize(random.from_to(LONGEST_FILE - 1, LONGEST_FILE + 2), random.next() as u8);
+            file.resize(random.between(LONGEST_FILE - 1, LONGEST_FILE + 2), random.next() as u8);
             file
         }
-        3 => vec![0x89; random.from_to(LONGEST_FILE, LONGEST_FILE + 1)],
+        3 => vec![0x89; random.between(LONGEST_FILE, LONGEST_FILE + 1)],
         _ => (0..random.below(60)).map(|_| random.next() as u8).collect(),
     }
 }
@@ -129,7 +129,7 @@ fn memory_length(random: &mut Random) -> usize {
         900..=989 => random.below(400),
         990..=993 => MOST_MEMORY,
         994..=997 => MOST_MEMORY + 1,
-        _ => random.from_to(MOST_MEMORY, MOST_MEMORY + 3000),
+        _ => random.between(MOST_MEMORY, MOST_MEMORY + 3000),
     }
 }
 
@@ -141,7 +141,7 @@ fn filler(random: &mut Random, length: usize) -> Vec<u32> {
 
 /// Any budget where there is no loop, and one that is soon spent where there is.
 fn budget(random: &mut Random, program: Option<&Program>) -> u32 {
-    let loops = program.map_or(true, |program| program.instructions.iter().any(|i| i.kind == BGNLOOP));
+    let loops = program.is_none_or(|program| program.instructions.iter().any(|i| i.kind == BGNLOOP));
     match random.below(20) {
         0 => 0,
         1..=5 => random.below(20) as u32,

@@ -63,8 +63,11 @@ struct Checker {
     open: Vec<Open>,
 }
 
+/// A refusal's number and whether a record is due it.
+type Rule = (u32, fn(&Checker, &Record) -> bool);
+
 /// The rules on one record, in the order of their numbers. A rule may rely on those above it.
-const RULES: [(u32, fn(&Checker, &Record) -> bool); 8] = [
+const RULES: [Rule; 8] = [
     (5, Checker::comes_too_late),
     (6, Checker::is_one_too_many),
     (7, Checker::breaks_field_rule),

@@ -163,11 +163,11 @@ mod tests {
         let made = || outcome(&Second::new(), &case);
         let wanted = made();
         assert!(difference(&made(), &wanted).is_none());
-        for i in 0..5 {
+        for (i, name) in WORDS.iter().enumerate() {
             for at in 0..wanted.words[i].0.len() {
                 let mut other = made();
                 change(&mut other.words[i], at);
-                assert!(difference(&other, &wanted).is_some_and(|text| text.starts_with(WORDS[i])));
+                assert!(difference(&other, &wanted).is_some_and(|text| text.starts_with(name)));
             }
         }
         for at in 0..wanted.prepared.0.len() {

@@ -9,7 +9,7 @@ use crate::write;
 
 /// Bytes changed, cut, put in or taken out.
 pub fn damage_bytes(random: &mut Random, file: &mut Vec<u8>) {
-    for _ in 0..random.from_to(1, 3) {
+    for _ in 0..random.between(1, 3) {
         if file.is_empty() {
             return;
         }
@@ -26,7 +26,7 @@ pub fn damage_bytes(random: &mut Random, file: &mut Vec<u8>) {
 
 /// Records swapped, doubled, taken out or moved.
 pub fn damage_records(random: &mut Random, draft: &mut Draft) {
-    for _ in 0..random.from_to(1, 2) {
+    for _ in 0..random.between(1, 2) {
         let records = &mut draft.records;
         let (a, b) = (random.below(records.len()), random.below(records.len()));
         match random.below(4) {
@@ -89,26 +89,26 @@ pub fn aim(random: &mut Random, draft: &mut Draft, number: u32) {
 
 /// The place of some instruction's record, END among them.
 fn some_instruction(random: &mut Random, draft: &Draft) -> usize {
-    random.from_to(draft.head.min(draft.records.len() - 1), draft.records.len() - 1)
+    random.between(draft.head.min(draft.records.len() - 1), draft.records.len() - 1)
 }
 
 /// A program about as deep as is allowed; or a SWITCH as 16th block, with the 17th in the place of its first label.
 fn nest_deeply(random: &mut Random, draft: &mut Draft) {
     if random.chance(80) {
-        let levels = random.from_to(15, 18);
+        let levels = random.between(15, 18);
         *draft = blocks::deep_program(random, levels);
         return;
     }
     let of_immediate = write::source(IMM, 0, 0, 0);
     let uif = write::control(UIF, of_immediate);
-    let mut records = vec![uif.clone(); random.from_to(14, 16)];
+    let mut records = vec![uif.clone(); random.between(14, 16)];
     records.push(write::control(SWITCH, of_immediate));
     records.push(if random.chance(50) { uif } else { write::mark(BGNLOOP) });
     draft.records.splice(draft.head..draft.head, records);
 }
 
 fn add_tail(random: &mut Random, draft: &mut Draft) {
-    let tail = (0..random.from_to(1, 4)).map(|_| random.next() as u8).collect();
+    let tail = (0..random.between(1, 4)).map(|_| random.next() as u8).collect();
     let more = if random.chance(50) { tail } else { draft.records[random.below(draft.records.len())].clone() };
     draft.records.push(more);
 }
@@ -133,7 +133,7 @@ fn late_head(random: &mut Random, draft: &mut Draft) {
 /// Up to 1,025 or 257 of them, or one less, which is not refused.
 fn too_many(random: &mut Random, draft: &mut Draft) {
     if random.chance(50) {
-        let wanted = random.from_to(1024, 1026);
+        let wanted = random.between(1024, 1026);
         let missing = wanted.saturating_sub(draft.records.len() - draft.head);
         draft.records.splice(draft.head..draft.head, vec![write::mark(NOP); missing]);
         if random.chance(50) {
@@ -148,7 +148,7 @@ fn too_many(random: &mut Random, draft: &mut Draft) {
         }
     } else {
         let made = draft.records.iter().filter(|record| record[0] == IMMEDIATE).count();
-        let missing = random.from_to(256, 258).saturating_sub(made);
+        let missing = random.between(256, 258).saturating_sub(made);
         draft.records.splice(draft.head..draft.head, vec![write::immediate([7, 8, 9, 10]); missing]);
         draft.head += missing;
     }
@@ -191,7 +191,7 @@ fn overlap(random: &mut Random, draft: &mut Draft) {
     // The first moves down or the last moves up, so that the two are mostly different.
     let offset = random.pick(&[2, 4]);
     copy[offset] = if offset == 2 { copy[2].saturating_sub(1) } else { copy[4].saturating_add(1) };
-    draft.records.insert(random.from_to(0, draft.head), copy);
+    draft.records.insert(random.between(0, draft.head), copy);
     draft.head += 1;
 }
 
@@ -209,7 +209,7 @@ fn undeclare(random: &mut Random, draft: &mut Draft) {
         let first = if is_control { 1 } else { 5 };
         if first + 4 < record.len() {
             record[first] = random.pick(&[CONST, TEMP]);
-            record[first + 4] = 2 * random.from_to(1, 4) as u8;
+            record[first + 4] = 2 * random.between(1, 4) as u8;
         }
         return;
     }

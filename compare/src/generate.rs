@@ -98,7 +98,7 @@ impl<'a> Maker<'a> {
         const MINUS_ONE: [u32; 2] = [0xFFFF_FFFF; 2];
         match self.random.below(10) {
             0..=3 => std::array::from_fn(|_| match self.random.below(10) {
-                0 => (4 * self.random.from_to(1, 4) as u32).wrapping_neg(),
+                0 => (4 * self.random.between(1, 4) as u32).wrapping_neg(),
                 1 => self.random.word(),
                 _ => 4 * self.random.below(24) as u32,
             }),
@@ -115,7 +115,7 @@ impl<'a> Maker<'a> {
         let size = file_size(file);
         let (gap, longest) = if self.random.chance(4) { (300, 200) } else { (3, 6) };
         let mut next = if self.random.chance(70) { 0 } else { self.random.below(gap + 1) };
-        for _ in 0..self.random.from_to(1, 3) {
+        for _ in 0..self.random.between(1, 3) {
             let (first, last) = (next, next + self.random.below(longest));
             if first >= size {
                 break;
@@ -154,7 +154,7 @@ impl<'a> Maker<'a> {
         match self.register(file) {
             Some(_) if self.may_be_indirect(file) => {
                 let index = if self.random.chance(95) { self.random.below(12) } else { self.random.below(65_536) };
-                write::source(file, index as u16, swizzle, negate + 2 * self.random.from_to(1, 4) as u8)
+                write::source(file, index as u16, swizzle, negate + 2 * self.random.between(1, 4) as u8)
             }
             Some(index) => write::source(file, index, swizzle, negate),
             None => write::source(IMM, self.random.below(self.immediates.len()) as u16, swizzle, negate),
@@ -179,7 +179,7 @@ impl<'a> Maker<'a> {
             _ if is_pair(kind) => self.random.pick(&[3, 12, 15]),
             _ if is_comparison64(kind) => self.random.pick(&[1, 4, 5]),
             _ if self.random.chance(40) => 15,
-            _ => self.random.from_to(1, 15) as u8,
+            _ => self.random.between(1, 15) as u8,
         };
         let file = match kind {
             UARL => ADDR,

@@ -99,7 +99,7 @@ impl<'a> Machine<'a> {
 
     /// The word at a byte address, if it is aligned and inside.
     fn word(&mut self, address: u64) -> Option<&mut u32> {
-        if address % 4 != 0 {
+        if !address.is_multiple_of(4) {
             return None;
         }
         self.memory.get_mut((address / 4) as usize)

@@ -87,7 +87,7 @@ fn pairs(register: Register) -> [u64; 2] {
 /// The number of the word at a byte address and 4i; that of a misaligned one is outside.
 #[inline]
 fn word(address: u32, i: usize) -> usize {
-    if address % 4 == 0 {
+    if address.is_multiple_of(4) {
         address as usize / 4 + i
     } else {
         usize::MAX
