@@ -1,0 +1,137 @@
+//! The benchmark: steps per second of the library and of a plain interpreter, and the times of check and prepare.
+
+use crate::format::*;
+use crate::kinds::*;
+use crate::machine::REGISTER_WORDS;
+use crate::run::MOST_MEMORY;
+use crate::runner::{Answer, Lent, Runner};
+use crate::write::{self, from_hex};
+use std::time::Instant;
+
+const PROGRAMS: [(&str, &str); 3] = [
+    ("bench1", include_str!("../vectors/bench1.hex")),
+    ("bench2", include_str!("../vectors/bench2.hex")),
+    ("bench3", include_str!("../vectors/bench3.hex")),
+];
+
+/// The programs count to IN[0].x; so many rounds take over 50 ms.
+const ROUNDS: u32 = 800_000;
+const REPEATS: usize = 7;
+
+/// The time of some work in seconds.
+fn time(work: impl FnOnce()) -> f64 {
+    let start = Instant::now();
+    work();
+    start.elapsed().as_secs_f64()
+}
+
+/// The least time of several: a disturbance only adds.
+fn least_time(mut work: impl FnMut()) -> f64 {
+    (0..REPEATS).map(|_| time(&mut work)).fold(f64::INFINITY, f64::min)
+}
+
+/// One whole run: the answer, the words it leaves, and its time.
+fn run(runner: &dyn Runner, file: &[u8]) -> (Answer, Vec<u32>, f64) {
+    let (mut registers, mut work) = (vec![0; REGISTER_WORDS], vec![0; 3 * 1024]);
+    let mut memory = vec![0; MOST_MEMORY];
+    let mut answer = Answer::done(0);
+    let (inputs, constants) = (&[ROUNDS, 0, 0, 0], &[]);
+    let lent = Lent { inputs, constants, registers: &mut registers, work: &mut work, memory: &mut memory };
+    let time = time(|| answer = runner.run(file, lent, u32::MAX));
+    registers.append(&mut memory);
+    (answer, registers, time)
+}
+
+/// Measures a program; false if the runners do not leave the same. They take turns, so that a busy machine is busy
+/// for all of them.
+fn bench_program(runners: &[&dyn Runner], file: &[u8]) -> bool {
+    let (wanted, words, _) = run(runners[0], file);
+    let mut same = true;
+    let mut least = vec![f64::INFINITY; runners.len()];
+    for _ in 0..REPEATS {
+        for (runner, least) in runners.iter().zip(&mut least) {
+            let (answer, left, time) = run(*runner, file);
+            same &= answer == wanted && left == words;
+            *least = least.min(time);
+        }
+    }
+    for (runner, time) in runners.iter().zip(&least) {
+        let (rate, ratio) = (wanted.first as f64 / time / 1e6, time / least[0]);
+        println!("  {:18} {:6.1} ms, {rate:6.1} million steps a second, ratio {ratio:.2}", runner.name(), time * 1e3);
+    }
+    same
+}
+
+/// Runs the benchmark. The ratio is a runner's time per step over the plain interpreter's.
+pub fn bench(product: Option<&dyn Runner>, second: &dyn Runner, plain: &dyn Runner) -> bool {
+    let mut same = true;
+    let runners: Vec<&dyn Runner> = [plain].into_iter().chain(product).chain([second]).collect();
+    for (name, text) in PROGRAMS {
+        let file = from_hex(text);
+        println!("{name}: {} bytes, {} steps", file.len(), run(plain, &file).0.first);
+        same &= bench_program(&runners, &file);
+    }
+    if !same {
+        println!("the runners do not leave the same words");
+    }
+    for (name, file) in largest_files() {
+        println!("{name}: {} bytes", file.len());
+        for runner in product.into_iter().chain([second]) {
+            let mut work = vec![0; 3 * 1024];
+            let mut answer = Answer::done(0);
+            let check = least_time(|| answer = runner.check(&file)) * 1e6;
+            let prepare = least_time(|| answer = runner.prepare(&file, &mut work)) * 1e6;
+            println!("  {:18} check {check:8.1} us, prepare {prepare:8.1} us: {answer:?}", runner.name());
+        }
+    }
+    same
+}
+
+/// Every register of every file by a declaration of its own, and 256 immediates, all words different.
+fn largest_head() -> Vec<u8> {
+    let mut bytes = vec![];
+    for file in [CONST, IN, OUT, TEMP, ADDR, MEM] {
+        for register in 0..file_size(file) as u16 {
+            bytes.extend(write::declaration(file, register, register));
+        }
+    }
+    for i in 0..256 {
+        bytes.extend(write::immediate([4 * i, 4 * i + 1, 4 * i + 2, 4 * i + 3]));
+    }
+    bytes
+}
+
+/// The head and 1,024 instructions: those given, filled up with the longest kind, then END.
+fn filled(first: Vec<Vec<u8>>, last: Vec<Vec<u8>>) -> Vec<u8> {
+    let source = write::source(TEMP, 255, write::STRAIGHT, 8);
+    let longest = write::instruction(BFI, write::destination(TEMP, 255, 15), &[source; 4]);
+    let missing = 1023 - first.len() - last.len();
+    let fill = vec![longest; missing];
+    [largest_head(), first.concat(), fill.concat(), last.concat(), write::mark(END)].concat()
+}
+
+/// A SWITCH with so many CASE labels, each of another value.
+fn switch(cases: usize) -> Vec<Vec<u8>> {
+    let case = |i| write::control(CASE, write::source(IMM, i as u16 / 4, i as u8 % 4, 0));
+    let mut records = vec![write::control(SWITCH, write::direct(IN, 31))];
+    records.extend((0..cases).map(case));
+    records
+}
+
+/// The largest files there are. An accepted one has at most 38,004 bytes; 65,536 are reached with bytes after END,
+/// which are refused only when all before them has been read.
+fn largest_files() -> Vec<(&'static str, Vec<u8>)> {
+    let end = || vec![write::mark(ENDSWITCH)];
+    let loops = vec![write::mark(BGNLOOP); 16];
+    let mut jumps = loops.clone();
+    jumps.extend(vec![write::mark(BRK); 990]);
+    let mut padded = filled(switch(500), end());
+    padded.resize(LONGEST_FILE, 0);
+    vec![
+        ("largest accepted file", filled(vec![], vec![])),
+        ("SWITCH with 500 CASE labels", filled(switch(500), end())),
+        ("the same, filled up to 65,536 bytes", padded),
+        ("SWITCH with 1,021 CASE labels", filled(switch(1021), end())),
+        ("990 BRK in 16 loops", filled(jumps, vec![write::mark(ENDLOOP); 16])),
+    ]
+}

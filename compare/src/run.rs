@@ -1,0 +1,96 @@
+//! The second interpreter's four calls, with the answers the C interface gives.
+
+use crate::check::{check, Program, Refusal};
+use crate::format::{self, Part, CONST, IN};
+use crate::machine::{Machine, REGISTER_WORDS};
+use crate::reading::{nest, Reading, Stop};
+use crate::runner::{Answer, Lent, Runner};
+use crate::table::rows;
+use std::cell::RefCell;
+
+pub const MOST_MEMORY: usize = 16_384;
+
+/// The second interpreter. It counts the instructions it carries out, by kind.
+pub struct Second {
+    pub carried_out: RefCell<[u64; 256]>,
+}
+
+impl Second {
+    pub fn new() -> Second {
+        Second { carried_out: RefCell::new([0; 256]) }
+    }
+}
+
+fn refused(refusal: Refusal) -> Answer {
+    Answer::refused(refusal.number, refusal.place as u32)
+}
+
+/// "working words under 3 per instruction"
+fn work_is_short(program: &Program, work: &[u32]) -> bool {
+    work.len() < 3 * program.instructions.len()
+}
+
+/// Refusals 20 to 24 "in order, place 0".
+fn lent_refusal(program: &Program, lent: &Lent) -> Option<Answer> {
+    let rules = [
+        (20, lent.inputs.len() < program.declared.words_needed(IN)),
+        (21, lent.constants.len() < program.declared.words_needed(CONST)),
+        (22, lent.registers.len() < REGISTER_WORDS),
+        (23, work_is_short(program, lent.work)),
+        (24, lent.memory.len() > MOST_MEMORY),
+    ];
+    rules.iter().find(|(_, is_broken)| *is_broken).map(|(number, _)| Answer::refused(*number, 0))
+}
+
+impl Runner for Second {
+    fn name(&self) -> &'static str {
+        "second interpreter"
+    }
+
+    fn check(&self, file: &[u8]) -> Answer {
+        match check(file) {
+            Ok(program) => Answer::done(program.instructions.len() as u32),
+            Err(refusal) => refused(refusal),
+        }
+    }
+
+    fn prepare(&self, file: &[u8], work: &mut [u32]) -> Answer {
+        match check(file) {
+            Ok(program) if work_is_short(&program, work) => Answer::refused(23, 0),
+            Ok(program) => {
+                let table = rows(&program, &nest(&program.instructions));
+                work[..3 * table.len()].copy_from_slice(table.as_flattened());
+                Answer::done(program.instructions.len() as u32)
+            }
+            Err(refusal) => refused(refusal),
+        }
+    }
+
+    /// "A run checks, prepares, clears these and no word past them, then carries out."
+    fn run(&self, file: &[u8], lent: Lent, budget: u32) -> Answer {
+        let program = match check(file) {
+            Ok(program) => program,
+            Err(refusal) => return refused(refusal),
+        };
+        if let Some(answer) = lent_refusal(&program, &lent) {
+            return answer;
+        }
+        let list = nest(&program.instructions);
+        let table = rows(&program, &list);
+        lent.work[..3 * table.len()].copy_from_slice(table.as_flattened());
+        let machine = Machine::new(&program, lent.inputs, lent.constants, lent.memory);
+        let carried_out = &mut *self.carried_out.borrow_mut();
+        let mut reading = Reading { program: &program, machine, budget, count: 0, carried_out };
+        let stop = reading.read(&list);
+        reading.machine.lay_out(lent.registers);
+        match stop {
+            Stop::End => Answer::done(reading.count),
+            Stop::Halt(next) => Answer::halted(reading.count, next as u32),
+            _ => unreachable!("the outermost list ends with END, and BRK and CONT are inside blocks"),
+        }
+    }
+
+    fn record(&self, file: &[u8], n: usize) -> Part {
+        format::record(file, n)
+    }
+}
