@@ -1,0 +1,19 @@
+-- Each arm puts its case into words.
+-- Assumes nothing.
+use borrow.Author.Needs.{needs}
+use Rattle.checker.specs.Check.{told}
+use Rattle.capi.specs.Answers.{answerOf, checkAnswer}
+use Rattle.capi.proofs.HandedOn.{in-arm}
+use Rattle.capi.proofs.checked.Statement.{statement}
+use Rattle.capi.proofs.checked.Tie as tie
+
+pub checked-spec : {M : Type 1} → statement M
+checked-spec =
+    tie.close
+    (tie.spec
+    (search needs)
+    (search needs)
+    (search needs)
+    (search needs)
+    (λ c. search (needs, in-arm (λ v. answerOf (checkAnswer (told v)))))
+    (λ c. search (needs, in-arm (λ v. answerOf (checkAnswer (told v))))))

@@ -1,0 +1,15 @@
+-- The verdict is what the definition says, in words.
+-- Assumes nothing.
+use borrow.Author.Needs.{needs}
+use Rattle.capi.specs.Answers.{answerOf, checkAnswer}
+use Rattle.capi.proofs.HandedOn.{by-callee}
+use Rattle.capi.proofs.ropebonnet_check.Statement.{statement}
+use Rattle.capi.proofs.ropebonnet_check.Tie as tie
+
+pub ropebonnet-check-spec : {M : Type 1} → statement M
+ropebonnet-check-spec =
+    tie.close
+    (tie.spec
+    (search needs)
+    (search needs)
+    (λ c. search (needs, by-callee (λ t. answerOf (checkAnswer t)))))

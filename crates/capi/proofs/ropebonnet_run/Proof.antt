@@ -1,0 +1,17 @@
+-- The answer is what the definition says, in words; the lent words are those the library leaves.
+-- Assumes nothing.
+use borrow.Author.Needs.{needs}
+use Rattle.capi.proofs.HandedOn.{ran-is}
+use Rattle.capi.proofs.ropebonnet_run.Statement.{statement}
+use Rattle.capi.proofs.ropebonnet_run.Tie as tie
+
+pub ropebonnet-run-spec : {M : Type 1} → statement M
+ropebonnet-run-spec =
+    tie.close
+    (tie.spec
+    (search needs)
+    (search needs)
+    (search needs)
+    (search needs)
+    (search needs)
+    (λ c. search (needs, ran-is)))

@@ -1,0 +1,52 @@
+-- What the C interface answers: the library's answers in words, by numbers of status.
+-- Assumes nothing.
+use Prim.Native.Nat.{ℕ}
+use mathlib.Core.List.{List}
+use Rattle.format.specs.declared.records.Bounds.{Bounds}
+use Rattle.checker.specs.Check.{Told, follows, breaks}
+use Rattle.runner.specs.Answers.{refusal, ready, end, halt, Lent, Result, Preparation}
+use Rattle.runner.specs.Answers.{Answer as Library}
+use Rattle.capi.specs.declared.Answer.{Answer}
+use Rattle.capi.specs.declared.Part.{Part}
+
+abbrev pub words : ℕ → ℕ → ℕ → Answer
+words status first second = record { status = status; first = first; second = second }
+
+-- Status 0 is done, 1 halted, 2 refused. A word that a status does not use is 0.
+abbrev pub answerOf : Library → Answer
+answerOf (ready instructions) = words 0 instructions 0
+answerOf (end steps) = words 0 steps 0
+answerOf (halt steps next) = words 1 steps next
+answerOf (refusal number place) = words 2 number place
+
+-- A check answers as preparing does, which has one refusal more.
+abbrev pub checkAnswer : Told → Library
+checkAnswer (follows instructions) = ready instructions
+checkAnswer (breaks number place) = refusal number place
+
+-- What a host holds after a preparing: the answer in words, and the working words.
+pub record Prepared : Type 0 where
+  pub answer : Answer
+  pub work : List ℕ
+
+abbrev pub afterPreparing : Answer → List ℕ → Prepared
+afterPreparing answer work = record { answer = answer; work = work }
+
+abbrev pub preparationInWords : Preparation → Prepared
+preparationInWords x = afterPreparing (answerOf (x .answer)) (x .work)
+
+-- What a host holds after a run: the answer in words, and every lent word.
+pub record Ran : Type 0 where
+  pub answer : Answer
+  pub lent : Lent
+
+abbrev pub afterRun : Answer → List ℕ → List ℕ → List ℕ → Ran
+afterRun answer registers work memory =
+    record { answer = answer; lent = record { registers = registers; work = work; memory = memory } }
+
+abbrev pub resultInWords : Result → Ran
+resultInWords x = record { answer = answerOf (x .answer); lent = x .lent }
+
+-- A part of the file: where it starts, and how many bytes it has.
+abbrev pub partOf : Bounds → Part
+partOf b = record { start = b .start; length = b .length }

@@ -1,0 +1,42 @@
+// What the programs write: text, numbers and outcomes, on standard output. No contract can say what is written.
+use libc::STDOUT_FILENO;
+use runner::Outcome;
+
+pub fn text(bytes: &[u8]) {
+    io::write_all(STDOUT_FILENO, bytes);
+}
+
+pub fn line_end() {
+    text(b"\n");
+}
+
+pub fn number(n: u64) {
+    io::print_decimal(STDOUT_FILENO, n);
+}
+
+// A space and a number.
+pub fn next_number(n: u64) {
+    text(b" ");
+    number(n);
+}
+
+// `ended STEPS`, `halted STEPS NEXT` or `refused NUMBER PLACE`, and the line's end.
+pub fn outcome_line(outcome: Outcome) {
+    match outcome {
+        Outcome::Ended(steps) => {
+            text(b"ended");
+            next_number(steps as u64);
+        }
+        Outcome::Halted(steps, next) => {
+            text(b"halted");
+            next_number(steps as u64);
+            next_number(next as u64);
+        }
+        Outcome::Refused(number, place) => {
+            text(b"refused");
+            next_number(number as u64);
+            next_number(place as u64);
+        }
+    }
+    line_end();
+}
