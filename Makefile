@@ -1,0 +1,18 @@
+# make run    proves and builds the program and runs the example
+# make test   all tests; the last line is rt ci's own, 'N passed, 0 failed'
+# make bench  steps per second beside a plain interpreter, and the time of check and prepare
+.PHONY: run test bench clean
+
+run:
+	rt check tgsi_run
+	target/bin/tgsi_run examples/measure.bin examples/comma.words
+
+test:
+	scripts/test
+
+bench:
+	rt staticlib capi
+	cd compare && cargo build --release --offline && target/release/compare bench
+
+clean:
+	rm -rf target compare/target
