@@ -3,6 +3,7 @@ pub mod Correct
 pub mod Examples
 pub mod Lists
 pub mod Nested
+pub mod Ops
 pub mod Parse
 pub mod Sim
 pub mod Words
