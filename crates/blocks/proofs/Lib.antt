@@ -5,5 +5,6 @@ pub mod Lists
 pub mod Nested
 pub mod Ops
 pub mod Parse
+pub mod Readers
 pub mod Sim
 pub mod Words

@@ -1,7 +1,8 @@
 -- The control instruction of a kind byte: one of the twelve kinds, or PLAIN.
 -- Assumes nothing.
 use mathlib.Core.Path.{_≡_, refl}
-use mathlib.Core.Bool.{Bool, true, false, cond}
+use mathlib.Core.Bool.{Bool, true, false, cond, false≢true}
+use mathlib.Core.Logic.{_⊎_, inl, inr}
 use Prim.Native.Nat.{ℕ}
 use lib.Dec.{eqb}
 use borrow.Author.Tests.{eqb-true, eqb-false}
@@ -16,6 +17,23 @@ kind-at f n k e = rw e
 
 pub jump-at : (n k : ℕ) (t : Targets) → k ≡ n → jumpOf (opOf n) t ≡ jumpOf (opOf k) t
 jump-at n k t e = rw e
+
+-- The kinds that the readers test for.
+pub uif-kind : (k : ℕ) → k ≡ 0x90 → opOf k ≡ UIF
+unfolding opOf
+uif-kind k e = rw e
+
+pub loop-kind : (k : ℕ) → k ≡ 0x83 → opOf k ≡ BGNLOOP
+unfolding opOf
+loop-kind k e = rw e
+
+pub switch-kind : (k : ℕ) → k ≡ 0x91 → opOf k ≡ SWITCH
+unfolding opOf
+switch-kind k e = rw e
+
+pub else-kind : (k : ℕ) → k ≡ 0x81 → opOf k ≡ ELSE
+unfolding opOf
+else-kind k e = rw e
 
 or-else : (P : Op → Type 0) (k n : ℕ) (o p : Op) → (k ≡ n → P o) → ((k ≡ n → ⊥) → P p) → P (cond (eqb k n) o p)
 or-else P k n o p found other = on (eqb k n) refl
@@ -74,6 +92,14 @@ pub not-label : (k : ℕ) → (k ≡ 0x87 → ⊥) → (k ≡ 0x92 → ⊥) → 
 not-label k g m =
     op-cases (λ o. false ≡ isLabel o) k (λ e. refl) (λ e. refl) (λ e. refl) (λ e. refl) (λ e. refl) (λ e. refl) (λ e. absurd (g e))
     (λ e. refl) (λ e. refl) (λ e. refl) (λ e. refl) (λ e. absurd (m e)) refl
+
+pub opening-kind : (k : ℕ) → opens (opOf k) ≡ true → (k ≡ 0x90 → ⊥) → (k ≡ 0x83) ⊎ (k ≡ 0x91)
+opening-kind k h u =
+    op-cases (λ o. opens o ≡ true → (k ≡ 0x83) ⊎ (k ≡ 0x91)) k (λ e. none) (λ e. none) (λ e d. inl e) (λ e. none) (λ e. none)
+    (λ e. none) (λ e. none) (λ e. none) (λ e. none) (λ e d. absurd (u e)) (λ e d. inr e) (λ e. none) none h
+  where
+    none : false ≡ true → (k ≡ 0x83) ⊎ (k ≡ 0x91)
+    none d = absurd (false≢true d)
 
 pub not-else : (k : ℕ) → (k ≡ 0x81 → ⊥) → is ELSE (opOf k) ≡ false
 not-else k a =

@@ -79,17 +79,17 @@ fn past_block(kinds: &[u8], n: usize) -> usize
         return n;
     }
     let kind = kinds[n];
-    if !is_opening(kind) {
-        return n;
-    }
-    let p = past(kinds, n + 1);
-    if kind == 0x90 {
+    if is_opening(kind) {
+        let p = past(kinds, n + 1);
         // A first part that ends with ELSE has a second one after it.
-        if kinds[p - 1] == 0x81 {
-            return past(kinds, p);
+        if kind == 0x90 {
+            if kinds[p - 1] == 0x81 {
+                return past(kinds, p);
+            }
         }
+        return p;
     }
-    p
+    n
 }
 
 // The number past the list that starts at instruction n.
