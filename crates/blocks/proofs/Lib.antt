@@ -5,6 +5,8 @@ pub mod Lists
 pub mod Nested
 pub mod Ops
 pub mod Parse
+pub mod Places
 pub mod Readers
+pub mod Rows
 pub mod Sim
 pub mod Words

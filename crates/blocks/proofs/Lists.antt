@@ -6,8 +6,9 @@ use Prim.Native.Nat.{ℕ, zero, suc, _+_, _≤_, _<_}
 use native.Mathlib.Omega.{arith}
 use lib.Dec.{ltb}
 use borrow.Author.Tests.{lt-ltb, le-ltb, ltb-true}
-use Rattle.blocks.specs.Control.{Op, PLAIN, ELSE, ENDIF, BGNLOOP, ENDLOOP, BRK, CONT, DEFAULT, ENDSWITCH, END, UIF, SWITCH, CASE, is}
+use Rattle.blocks.specs.Control.{Op, PLAIN, ELSE, ENDIF, BGNLOOP, ENDLOOP, BRK, CONT, DEFAULT, ENDSWITCH, END, UIF, SWITCH, CASE, is, isLabel}
 use Rattle.blocks.specs.Lists.{Items, nil, one, uif, loop, switch, size, item, listFrom, listAt}
+use Rattle.blocks.specs.Table.{firstLabel}
 
 pub cond-cases : {A : Type 0} (P : A → Type 0) (t : Bool) (x y : A) → (t ≡ true → P x) → (t ≡ false → P y) → P (cond t x y)
 cond-cases P true x y a b = a refl
@@ -55,41 +56,72 @@ module _ (op : ℕ → Op) where
     list-item n h =
         from-enough N (suc N) n (omega arith) (omega arith) ∙ rw (lt-ltb n N h)
 
-    item-fits : (o : Op) (n : ℕ) (from : ℕ → Items)
-        → ((m : ℕ) → m ≤ N → m + size (from m) ≤ N)
-        → n < N
-        → n + size (item op o from n) ≤ N
-    item-fits PLAIN n from h l = omega (arith, h (suc n) (omega arith))
-    item-fits BRK n from h l = omega (arith, h (suc n) (omega arith))
-    item-fits CONT n from h l = omega (arith, h (suc n) (omega arith))
-    item-fits CASE n from h l = omega (arith, h (suc n) (omega arith))
-    item-fits DEFAULT n from h l = omega (arith, h (suc n) (omega arith))
-    item-fits ELSE n from h l = omega arith
-    item-fits ENDIF n from h l = omega arith
-    item-fits ENDLOOP n from h l = omega arith
-    item-fits ENDSWITCH n from h l = omega arith
-    item-fits END n from h l = omega arith
-    item-fits UIF n from h l =
-        let p : Items = from (suc n) in
-        let hp = h (suc n) (omega arith) in
-        let q : Items = cond (is ELSE (op (n + size p))) (from (suc n + size p)) nil in
-        let hq : suc n + size p + size q ≤ N
-        = cond-cases (λ (x : Items). suc n + size p + size x ≤ N) (is ELSE (op (n + size p))) (from (suc n + size p)) nil
-        (λ e. h (suc n + size p) hp) (λ e. omega arith) in
-        omega (arith, h (suc n + size p + size q) hq)
-    item-fits BGNLOOP n from h l =
-        let hb = h (suc n) (omega arith) in
-        omega (arith, h (suc n + size (from (suc n))) hb)
-    item-fits SWITCH n from h l =
-        let hb = h (suc n) (omega arith) in
-        omega (arith, h (suc n + size (from (suc n))) hb)
+    -- ---- The layout of any list
 
-    from-fits : (f n : ℕ) → n ≤ N → n + size (listFrom op N f n) ≤ N
+    -- The list l is laid out from number a on: each instruction has the number after the one before it, and is one of N.
+    abbrev pub Laid : Items → ℕ → Type 0
+    Laid nil a = Unit {0}
+    Laid (one n rest) a = (n ≡ a) × (a < N) × Laid rest (suc a)
+    Laid (uif n p q rest) a = (n ≡ a) × (a < N) × Laid p (suc a) × Laid q (suc a + size p) × Laid rest (suc a + size p + size q)
+    Laid (loop n l rest) a = (n ≡ a) × (a < N) × Laid l (suc a) × Laid rest (suc a + size l)
+    Laid (switch n l rest) a = (n ≡ a) × (a < N) × Laid l (suc a) × Laid rest (suc a + size l)
+
+    item-laid : (o : Op) (n : ℕ) (from : ℕ → Items) → ((m : ℕ) → Laid (from m) m) → n < N → Laid (item op o from n) n
+    item-laid PLAIN n from h l = (refl, l, h (suc n))
+    item-laid BRK n from h l = (refl, l, h (suc n))
+    item-laid CONT n from h l = (refl, l, h (suc n))
+    item-laid CASE n from h l = (refl, l, h (suc n))
+    item-laid DEFAULT n from h l = (refl, l, h (suc n))
+    item-laid ELSE n from h l = (refl, l, tt)
+    item-laid ENDIF n from h l = (refl, l, tt)
+    item-laid ENDLOOP n from h l = (refl, l, tt)
+    item-laid ENDSWITCH n from h l = (refl, l, tt)
+    item-laid END n from h l = (refl, l, tt)
+    item-laid UIF n from h l =
+        let e : ℕ = suc n + size (from (suc n)) in (
+          refl,
+          l,
+          h (suc n),
+          cond-cases (λ (x : Items). Laid x e) (is ELSE (op (n + size (from (suc n))))) (from e) nil (λ c. h e) (λ c. tt),
+          h _,
+        )
+    item-laid BGNLOOP n from h l = (refl, l, h (suc n), h _)
+    item-laid SWITCH n from h l = (refl, l, h (suc n), h _)
+
+    from-laid : (f n : ℕ) → Laid (listFrom op N f n) n
     unfolding listFrom
-    from-fits zero n h = omega arith
-    from-fits (suc f) n h =
-        cond-cases (λ (x : Items). n + size x ≤ N) (ltb n N) (item op (op n) (listFrom op N f) n) nil
-        (λ e. item-fits (op n) n (listFrom op N f) (from-fits f) (ltb-true n N e)) (λ e. omega arith)
+    from-laid zero n = tt
+    from-laid (suc f) n =
+        cond-cases (λ (x : Items). Laid x n) (ltb n N) (item op (op n) (listFrom op N f) n) nil
+        (λ e. item-laid (op n) n (listFrom op N f) (from-laid f) (ltb-true n N e)) (λ e. tt)
+
+    pub list-laid : (n : ℕ) → Laid (listAt op N n) n
+    list-laid n = from-laid N n
+
+    pub laid-fits : (l : Items) (a : ℕ) → Laid l a → a ≤ N → a + size l ≤ N
+    laid-fits nil a w h = omega arith
+    laid-fits (one n rest) a w h = omega (arith, laid-fits rest (suc a) (w .2) (w .1))
+    laid-fits (uif n p q rest) a w h =
+        let hp = laid-fits p (suc a) (w .2) (w .1) in
+        let hq = laid-fits q (suc a + size p) (w .3) hp in
+        omega (arith, laid-fits rest (suc a + size p + size q) (w .4) hq)
+    laid-fits (loop n l rest) a w h =
+        let hl = laid-fits l (suc a) (w .2) (w .1) in
+        omega (arith, laid-fits rest (suc a + size l) (w .3) hl)
+    laid-fits (switch n l rest) a w h =
+        let hl = laid-fits l (suc a) (w .2) (w .1) in
+        omega (arith, laid-fits rest (suc a + size l) (w .3) hl)
+
+    -- A label is one of the instructions.
+    pub laid-label : (l : Items) (a : ℕ) → Laid l a → firstLabel op l ≤ N
+    unfolding firstLabel
+    laid-label nil a w = omega arith
+    laid-label (one n rest) a w =
+        cond-cases (λ (x : ℕ). x ≤ N) (isLabel (op n)) n (firstLabel op rest) (λ e. omega (arith, w .0, w .1))
+        (λ e. laid-label rest (suc a) (w .2))
+    laid-label (uif n p q rest) a w = laid-label rest (suc a + size p + size q) (w .4)
+    laid-label (loop n l rest) a w = laid-label rest (suc a + size l) (w .3)
+    laid-label (switch n l rest) a w = laid-label rest (suc a + size l) (w .3)
 
     pub list-fits : (n : ℕ) → n ≤ N → n + size (listAt op N n) ≤ N
-    list-fits n h = from-fits N n h
+    list-fits n h = laid-fits (listAt op N n) n (list-laid n) h

@@ -93,13 +93,20 @@ not-label k g m =
     op-cases (λ o. false ≡ isLabel o) k (λ e. refl) (λ e. refl) (λ e. refl) (λ e. refl) (λ e. refl) (λ e. refl) (λ e. absurd (g e))
     (λ e. refl) (λ e. refl) (λ e. refl) (λ e. refl) (λ e. absurd (m e)) refl
 
-pub opening-kind : (k : ℕ) → opens (opOf k) ≡ true → (k ≡ 0x90 → ⊥) → (k ≡ 0x83) ⊎ (k ≡ 0x91)
-opening-kind k h u =
-    op-cases (λ o. opens o ≡ true → (k ≡ 0x83) ⊎ (k ≡ 0x91)) k (λ e. none) (λ e. none) (λ e d. inl e) (λ e. none) (λ e. none)
-    (λ e. none) (λ e. none) (λ e. none) (λ e. none) (λ e d. absurd (u e)) (λ e d. inr e) (λ e. none) none h
-  where
-    none : false ≡ true → (k ≡ 0x83) ⊎ (k ≡ 0x91)
-    none d = absurd (false≢true d)
+module _ (k : ℕ) (h : opens (opOf k) ≡ true) where
+  opening-kind : (A : Type 0) → (k ≡ 0x83 → A) → (k ≡ 0x90 → A) → (k ≡ 0x91 → A) → A
+  opening-kind A l u s =
+      op-cases (λ o. opens o ≡ true → A) k (λ e. none) (λ e. none) (λ e d. l e) (λ e. none) (λ e. none) (λ e. none) (λ e. none)
+      (λ e. none) (λ e. none) (λ e d. u e) (λ e d. s e) (λ e. none) none h
+    where
+      none : false ≡ true → A
+      none d = absurd (false≢true d)
+
+  pub loop-or-switch : (k ≡ 0x90 → ⊥) → (k ≡ 0x83) ⊎ (k ≡ 0x91)
+  loop-or-switch u = opening-kind ((k ≡ 0x83) ⊎ (k ≡ 0x91)) (λ e. inl e) (λ e. absurd (u e)) (λ e. inr e)
+
+  pub uif-left : (k ≡ 0x83 → ⊥) → (k ≡ 0x91 → ⊥) → k ≡ 0x90
+  uif-left l s = opening-kind (k ≡ 0x90) (λ e. absurd (l e)) (λ e. e) (λ e. absurd (s e))
 
 pub not-else : (k : ℕ) → (k ≡ 0x81 → ⊥) → is ELSE (opOf k) ≡ false
 not-else k a =
@@ -115,3 +122,19 @@ pub no-jump : (t : Targets) (k : ℕ)
 no-jump t k a d e f =
     op-cases (λ o. 0 ≡ jumpOf o t) k (λ u. absurd (a u)) (λ u. refl) (λ u. refl) (λ u. absurd (d u)) (λ u. absurd (e u))
     (λ u. absurd (f u)) (λ u. refl) (λ u. refl) (λ u. refl) (λ u. refl) (λ u. refl) (λ u. refl) refl
+
+-- A mark that ends its list is no label.
+pub last-no-label : (o : Op) → closes o ≡ true → isLabel o ≡ false
+last-no-label ELSE h = refl
+last-no-label ENDIF h = refl
+last-no-label ENDLOOP h = refl
+last-no-label ENDSWITCH h = refl
+last-no-label END h = refl
+last-no-label PLAIN h = absurd (false≢true h)
+last-no-label BRK h = absurd (false≢true h)
+last-no-label CONT h = absurd (false≢true h)
+last-no-label CASE h = absurd (false≢true h)
+last-no-label DEFAULT h = absurd (false≢true h)
+last-no-label UIF h = absurd (false≢true h)
+last-no-label BGNLOOP h = absurd (false≢true h)
+last-no-label SWITCH h = absurd (false≢true h)

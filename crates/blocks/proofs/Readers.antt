@@ -9,12 +9,13 @@ use native.Mathlib.Omega.{arith}
 use native.Mathlib.Nat.{add-zero}
 use native.Mathlib.Numerals.{add-one}
 use lib.ListN.{length, getD}
-use Rattle.blocks.specs.Control.{Op, PLAIN, ELSE, ENDIF, BGNLOOP, ENDLOOP, BRK, CONT, DEFAULT, ENDSWITCH, END, UIF, SWITCH, CASE, is, opOf}
+use Rattle.blocks.specs.Control.{Op, PLAIN, ELSE, ENDIF, BGNLOOP, ENDLOOP, BRK, CONT, DEFAULT, ENDSWITCH, END, UIF, SWITCH, CASE, is, isLabel, opOf}
 use Rattle.blocks.specs.Lists.{Items, nil, one, uif, loop, switch, size, item, listAt}
 use Rattle.blocks.specs.Nesting.{opens}
 use Rattle.blocks.specs.Prepared.{closes, blockOf, opIn, listIn, blockIn}
-use Rattle.blocks.proofs.Lists.{list-item, list-end, list-fits}
-use Rattle.blocks.proofs.Ops.{uif-kind, loop-kind, switch-kind, else-kind, opening-kind, not-else}
+use Rattle.blocks.specs.Table.{firstLabel}
+use Rattle.blocks.proofs.Lists.{cond-cases, list-item, list-end, list-fits}
+use Rattle.blocks.proofs.Ops.{uif-kind, loop-kind, switch-kind, else-kind, loop-or-switch, not-else, last-no-label}
 
 -- ---- By the instruction
 
@@ -119,6 +120,21 @@ module _ (kinds : List ℕ) (n : ℕ) (h : n < length kinds) where
   pub at-switch : getD kinds n 0 ≡ 0x91 → blockIn kinds n ≡ switch n (listIn kinds (suc n)) nil
   at-switch k = rw (at-item, switch-kind (getD kinds n 0) k)
 
+  -- A UIF's second part is the list after its first, or empty.
+  pub at-uif : (P : Items → Type 0)
+      → getD kinds n 0 ≡ 0x90
+      → ((q : Items)
+      → (0 < size q → q ≡ listIn kinds (suc n + size (listIn kinds (suc n))))
+      → P (uif n (listIn kinds (suc n)) q nil))
+      → P (blockIn kinds n)
+  at-uif P k f =
+      let p : Items = listIn kinds (suc n) in
+      let e : ℕ = suc n + size p in
+      rw (at-item, uif-kind (getD kinds n 0) k)
+      (cond-cases (λ q. P (uif n p q nil)) (is ELSE (opIn kinds (n + size p))) (listIn kinds e) nil
+      (λ c. f (listIn kinds e) (λ some. refl))
+      (λ c. f nil (λ some. absurd (omega arith))))
+
   -- A UIF whose first part ends before number p.
   module _ (p : ℕ) (k : getD kinds n 0 ≡ 0x90) (e : p ≡ suc n + size (listIn kinds (suc n))) where
     last : n + size (listIn kinds (suc n)) ≡ p - 1
@@ -136,12 +152,15 @@ module _ (kinds : List ℕ) where
   pub list-within : (n : ℕ) → n ≤ length kinds → n + size (listIn kinds n) ≤ length kinds
   list-within n h = list-fits (opIn kinds) (length kinds) n h
 
-  past-end : (n : ℕ) → length kinds ≤ n → listIn kinds n ≡ nil
+  pub past-end : (n : ℕ) → length kinds ≤ n → listIn kinds n ≡ nil
   past-end n h = list-end (opIn kinds) (length kinds) n h
 
   module _ (m : ℕ) (h : m < length kinds) (t : Bool) (e : t ≡ opens (opOf (getD kinds m 0))) (k : t ≡ true) where
     pub block-some : m < m + size (blockIn kinds m)
     block-some = at-opening kinds m h (λ l. m < m + size (blockOf l)) t e k (λ q. omega arith) (omega arith) (omega arith)
+
+    pub left-falls : (r : ℕ) → r ≡ m + size (blockIn kinds m) → length kinds - r < length kinds - m
+    left-falls r d = omega (arith, block-some)
 
     -- A list that begins with a block goes on past it.
     pub past-block : m + size (listIn kinds m) ≡ m + size (blockIn kinds m) + size (listIn kinds (m + size (blockIn kinds m)))
@@ -181,15 +200,6 @@ module _ (kinds : List ℕ) (m e : ℕ) (ends : m + size (listIn kinds m) ≡ e)
       → r + size (listIn kinds r) ≡ e
   past-opening h t f k r d = rw d (omega (arith, past-block kinds m h t f k))
 
-  pub left-falls : m < length kinds
-      → (t : Bool)
-      → t ≡ opens (opOf (getD kinds m 0))
-      → t ≡ true
-      → (r : ℕ)
-      → r ≡ m + size (blockIn kinds m)
-      → length kinds - r < length kinds - m
-  left-falls h t f k r d = omega (arith, block-some kinds m h t f k)
-
 -- `past_block`: the block that instruction n opens.
 module _ (kinds : List ℕ) (n : ℕ) where
   pub ends-none : length kinds ≤ n → n ≡ n + size (blockIn kinds n)
@@ -206,7 +216,7 @@ module _ (kinds : List ℕ) (n : ℕ) where
       pub ends-other : (getD kinds n 0 ≡ 0x90 → ⊥) → p ≡ n + size (blockIn kinds n)
       ends-other u =
           ⊎-elim (λ v. rw (at-loop kinds n h v) (omega (arith, first))) (λ v. rw (at-switch kinds n h v) (omega (arith, first)))
-          (opening-kind (getD kinds n 0) (sym d ∙ k) u)
+          (loop-or-switch (getD kinds n 0) (sym d ∙ k) u)
 
       pub ends-if : getD kinds n 0 ≡ 0x90 → (getD kinds (p - 1) 0 ≡ 0x81 → ⊥) → p ≡ n + size (blockIn kinds n)
       ends-if u l = rw (at-if kinds n h p u first l) (omega (arith, first))
@@ -217,3 +227,46 @@ module _ (kinds : List ℕ) (n : ℕ) where
           → r ≡ p + size (listIn kinds p)
           → r ≡ n + size (blockIn kinds n)
       ends-else u l r f = rw (at-else kinds n h p u first l) (omega (arith, first))
+
+-- ---- Labels
+
+-- `next_label`: the first label of the list that starts at instruction m is x.
+module _ (kinds : List ℕ) (m x : ℕ) (first : firstLabel (opIn kinds) (listIn kinds m) ≡ x) where
+  pub label-stop : length kinds ≤ m → 0 ≡ x
+  unfolding firstLabel
+  label-stop h = sym (ap (firstLabel (opIn kinds)) (past-end kinds m h)) ∙ first
+
+  module _ (h : m < length kinds) (t : Bool) (d : t ≡ closes (opOf (getD kinds m 0))) where
+    pub label-last : t ≡ true → 0 ≡ x
+    unfolding firstLabel
+    label-last k = rw (at-last kinds m h t d k, last-no-label (opIn kinds m) (sym d ∙ k)) at first
+
+    module _ (k : t ≡ false) (u : Bool) (f : u ≡ opens (opOf (getD kinds m 0))) (l : u ≡ false) (v : Bool) (g : v ≡ isLabel (opOf (getD kinds m 0))) where
+      pub label-found : v ≡ true → m ≡ x
+      unfolding firstLabel
+      label-found i = rw (at-plain kinds m h t u d k f l, sym g ∙ i) at first
+
+      pub label-plain : v ≡ false → firstLabel (opIn kinds) (listIn kinds (m + 1)) ≡ x
+      unfolding firstLabel
+      label-plain i = rw (add-one m) (rw (at-plain kinds m h t u d k f l, sym g ∙ i) at first)
+
+  pub label-opening : m < length kinds
+      → (t : Bool)
+      → t ≡ opens (opOf (getD kinds m 0))
+      → t ≡ true
+      → (r : ℕ)
+      → r ≡ m + size (blockIn kinds m)
+      → firstLabel (opIn kinds) (listIn kinds r) ≡ x
+  unfolding firstLabel
+  label-opening h t f k r d =
+      let p : Items = listIn kinds (suc m) in
+      let j : m + suc (size p + 0) ≡ suc m + size p = omega arith in
+      rw d
+      (at-opening kinds m h
+      (λ l. firstLabel (opIn kinds) l ≡ x → firstLabel (opIn kinds) (listIn kinds (m + size (blockOf l))) ≡ x) t f k
+      (λ q e.
+      let i : m + suc (size p + (size q + 0)) ≡ suc m + size p + size q = omega arith in
+      rw i e)
+      (λ e. rw j e)
+      (λ e. rw j e)
+      first)

@@ -1,8 +1,8 @@
 -- What the code that fills the table leaves in the lent words, and what its readers find on the way.
 -- Assumes nothing.
 use Prim.Native.Nat.{ℕ, _+_, _*_, _≤_, _<_}
-use mathlib.Core.Bool.{Bool, cond, _&&_, _||_}
-use mathlib.Core.List.{List}
+use mathlib.Core.Bool.{Bool, true, cond, _&&_, _||_}
+use mathlib.Core.List.{List, [], _∷_}
 use mathlib.Core.Path.{_≡_}
 use lib.Dec.{leb}
 use lib.ListN.{length, getD}
@@ -11,8 +11,9 @@ use Rattle.format.specs.Records.{longest, placeFrom}
 use Rattle.blocks.specs.declared.table.Targets.{Targets}
 use Rattle.blocks.specs.Control.{Op, ELSE, ENDIF, ENDLOOP, ENDSWITCH, END, is, opOf}
 use Rattle.blocks.specs.Lists.{Items, nil, one, uif, loop, switch, listAt, nestedLists}
+use Rattle.blocks.specs.Nesting.{opens}
 use Rattle.blocks.specs.Run.{mostInstructions}
-use Rattle.blocks.specs.Table.{rowWords, rows, table, wordsOf}
+use Rattle.blocks.specs.Table.{rowOf, rowWords, rows, table, wordsOf}
 
 -- ---- The table of a file
 
@@ -67,6 +68,10 @@ module _ (kinds : List ℕ) where
   unfoldable pub wordsIn : List ℕ → Targets → ℕ → Items → List ℕ
   wordsIn places t n l = wordsOf (λ m. getD places m 0) n (rows opIn t l)
 
+  -- the words of the row of instruction n, which opens no block
+  unfoldable pub singleIn : List ℕ → Targets → ℕ → List ℕ
+  singleIn places t n = wordsOf (λ m. getD places m 0) n (rowOf opIn (opIn n) t (listIn (n + 1)) ∷ [])
+
 -- The code has the kinds and places of a program's instructions.
 pub record Located (file : List ℕ) (start count : ℕ) (kinds places : List ℕ) : Type 0 where
   pub kind : (n : ℕ) → n < count → getD kinds n 0 ≡ kindFrom file start n
@@ -78,7 +83,13 @@ pub record Room (kinds places work : List ℕ) : Type 0 where
   pub located : length places ≡ length kinds
   pub room : rowWords * length kinds ≤ length work
 
+-- Targets that are instructions' numbers.
 pub record Near (t : Targets) : Type 0 where
   pub brk : t .brk ≤ mostInstructions
   pub cont : t .cont ≤ mostInstructions
   pub after : t .after ≤ mostInstructions
+
+-- What `opening` asks: instruction n opens a block.
+pub record Opening (kinds : List ℕ) (n : ℕ) : Type 0 where
+  pub there : n < length kinds
+  pub opening : opens (opIn kinds n) ≡ true

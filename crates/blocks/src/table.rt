@@ -1,7 +1,11 @@
 // The prepared table. Two readers that call each other fill it: `block` reads a list of instructions, `opening` the block
 // that one of them opens.
+use format::fields::byte_at;
+use format::records::LONGEST;
+use format::records::size_at;
 ghost use mathlib.Core.Path.{_≡_};
-ghost use Prim.Native.Nat.{_+_, _*_, _<_};
+ghost use Prim.Native.Nat.{_+_, _*_, _<_, _≤_};
+ghost use mathlib.Core.Bool.{cond};
 ghost use mathlib.Core.List.{_∷_, []};
 ghost use lib.ListN.{getD, length};
 ghost use lib.Seq.{sets};
@@ -9,7 +13,9 @@ ghost use Rattle.blocks.specs.Control.{isLabel, opOf};
 ghost use Rattle.blocks.specs.Lists.{size};
 ghost use Rattle.blocks.specs.Nesting.{opens};
 ghost use Rattle.blocks.specs.Table.{jumpOf, firstLabel, rowWords};
-ghost use Rattle.blocks.specs.Prepared.{closes, opIn, listIn, blockIn};
+ghost use Rattle.blocks.specs.Prepared.{closes, opIn, listIn, blockIn, wordsIn, singleIn, Room, Near, Opening};
+ghost use Rattle.blocks.specs.Run.{mostInstructions};
+ghost use Rattle.format.specs.Records.{longest, next};
 
 // Words of a row: byte place, jump, label.
 pub const ROW_WORDS: usize = 3;
@@ -109,4 +115,142 @@ fn past(kinds: &[u8], n: usize) -> usize
         }
     }
     m
+}
+
+// The first own label of the list that starts at instruction n, 0 for none.
+fn next_label(kinds: &[u8], n: usize) -> usize
+    ensures { λ r. ⌜ r ≡ firstLabel (opIn (now (kinds .entry))) (listIn (now (kinds .entry)) n) ⌝ }
+{
+    let mut m = n;
+    while m < kinds.len() {
+        let kind = kinds[m];
+        if is_last(kind) {
+            return 0;
+        }
+        if is_opening(kind) {
+            m = past_block(kinds, m);
+        } else {
+            if is_label(kind) {
+                return m;
+            }
+            m += 1;
+        }
+    }
+    0
+}
+
+// The label of instruction n, which opens no block: a label has the next one.
+fn label_of(kinds: &[u8], n: usize) -> usize
+    requires { ⌜ n < length (now kinds) ⌝ }
+    ensures { λ r. ⌜ r ≡ cond (isLabel (opIn (now (kinds .entry)) n)) (firstLabel (opIn (now (kinds .entry))) (listIn (now (kinds .entry)) (n + 1))) 0 ⌝ }
+{
+    if is_label(kinds[n]) {
+        return next_label(kinds, n + 1);
+    }
+    0
+}
+
+// Writes row n.
+fn put_row(work: &mut [u32], n: usize, place: u32, jump: usize, label: usize)
+    requires { ⌜ (rowWords * n + rowWords ≤ length (now work)) × (jump ≤ mostInstructions) × (label ≤ mostInstructions) ⌝ }
+    ensures { λ _. ⌜ now (work .exit) ≡ sets (now (work .entry)) (rowWords * n) (place ∷ jump ∷ label ∷ []) ⌝ }
+{
+    let at = ROW_WORDS * n;
+    work[at] = place;
+    work[at + 1] = jump as u32;
+    work[at + 2] = label as u32;
+}
+
+// The place that the walk reaches from a place after one record.
+fn next_place(file: &[u8], at: usize) -> usize
+    requires { ⌜ (at ≤ length (now file)) × (length (now file) ≤ longest) ⌝ }
+    ensures { λ r. ⌜ r ≡ next (now (file .entry)) at ⌝ }
+{
+    let size = size_at(file, at);
+    if size == 0 {
+        return file.len();
+    }
+    at + size
+}
+
+// Writes the row of instruction n, which opens no block.
+fn single(kinds: &[u8], places: &[u32], work: &mut [u32], n: usize, targets: Targets)
+    requires { ⌜ Room (now kinds) (now places) (now work) ⌝ }
+    requires { ⌜ Near targets ⌝ }
+    requires { ⌜ n < length (now kinds) ⌝ }
+    ensures { λ _. ⌜ now (work .exit) ≡ sets (now (work .entry)) (rowWords * n) (singleIn (now (kinds .entry)) (now (places .entry)) targets n) ⌝ }
+{
+    put_row(
+        work,
+        n,
+        places[n],
+        jump_of(kinds[n], targets),
+        label_of(kinds, n),
+    );
+}
+
+// Reads the list that starts at instruction n, and writes its rows.
+fn block(kinds: &[u8], places: &[u32], work: &mut [u32], n: usize, targets: Targets)
+    requires { ⌜ Room (now kinds) (now places) (now work) ⌝ }
+    requires { ⌜ Near targets ⌝ }
+    ensures { λ _. ⌜ now (work .exit) ≡ sets (now (work .entry)) (rowWords * n) (wordsIn (now (kinds .entry)) (now (places .entry)) targets n (listIn (now (kinds .entry)) n)) ⌝ }
+{
+    let mut m = n;
+    while m < kinds.len() {
+        let kind = kinds[m];
+        if is_opening(kind) {
+            m = opening(kinds, places, work, m, targets);
+        } else {
+            single(kinds, places, work, m, targets);
+            if is_last(kind) {
+                return;
+            }
+            m += 1;
+        }
+    }
+}
+
+// Reads the block that instruction n opens, and writes its rows. The number past the block.
+fn opening(kinds: &[u8], places: &[u32], work: &mut [u32], n: usize, targets: Targets) -> usize
+    requires { ⌜ Room (now kinds) (now places) (now work) ⌝ }
+    requires { ⌜ Near targets ⌝ }
+    requires { ⌜ Opening (now kinds) n ⌝ }
+    ensures past { λ r. ⌜ r ≡ n + size (blockIn (now (kinds .entry)) n) ⌝ }
+    ensures rows { λ _. ⌜ now (work .exit) ≡ sets (now (work .entry)) (rowWords * n) (wordsIn (now (kinds .entry)) (now (places .entry)) targets n (blockIn (now (kinds .entry)) n)) ⌝ }
+{
+    let end = past_block(kinds, n);
+    let kind = kinds[n];
+    let place = places[n];
+    if kind == 0x83 {
+        put_row(work, n, place, 0, 0);
+        let inside = Targets {
+            brk: end,
+            cont: n + 1,
+            after: 0,
+        };
+        block(kinds, places, work, n + 1, inside);
+        return end;
+    }
+    if kind == 0x91 {
+        put_row(work, n, place, end, next_label(kinds, n + 1));
+        let inside = Targets {
+            brk: end,
+            cont: targets.cont,
+            after: 0,
+        };
+        block(kinds, places, work, n + 1, inside);
+        return end;
+    }
+    let second = past(kinds, n + 1);
+    put_row(work, n, place, second, 0);
+    let inside = Targets {
+        brk: targets.brk,
+        cont: targets.cont,
+        after: end,
+    };
+    block(kinds, places, work, n + 1, inside);
+    if second < end {
+        block(kinds, places, work, second, inside);
+    }
+    end
 }
