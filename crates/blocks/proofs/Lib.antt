@@ -1,6 +1,7 @@
 pub mod Agree
 pub mod Correct
 pub mod Examples
+pub mod Fill
 pub mod Lists
 pub mod Nested
 pub mod Ops
@@ -8,5 +9,6 @@ pub mod Parse
 pub mod Places
 pub mod Readers
 pub mod Rows
+pub mod Same
 pub mod Sim
 pub mod Words

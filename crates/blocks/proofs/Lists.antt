@@ -14,8 +14,17 @@ pub cond-cases : {A : Type 0} (P : A → Type 0) (t : Bool) (x y : A) → (t ≡
 cond-cases P true x y a b = a refl
 cond-cases P false x y a b = b refl
 
+module _ (N : ℕ) where
+  -- The list l is laid out from number a on: each instruction has the number after the one before it, and is one of N.
+  abbrev pub Laid : Items → ℕ → Type 0
+  Laid nil a = Unit {0}
+  Laid (one n rest) a = (n ≡ a) × (a < N) × Laid rest (suc a)
+  Laid (uif n p q rest) a = (n ≡ a) × (a < N) × Laid p (suc a) × Laid q (suc a + size p) × Laid rest (suc a + size p + size q)
+  Laid (loop n l rest) a = (n ≡ a) × (a < N) × Laid l (suc a) × Laid rest (suc a + size l)
+  Laid (switch n l rest) a = (n ≡ a) × (a < N) × Laid l (suc a) × Laid rest (suc a + size l)
+
 module _ (op : ℕ → Op) where
-  item-cong : (o : Op) (n : ℕ) (u v : ℕ → Items) → ((m : ℕ) → n < m → u m ≡ v m) → item op o u n ≡ item op o v n
+  pub item-cong : (o : Op) (n : ℕ) (u v : ℕ → Items) → ((m : ℕ) → n < m → u m ≡ v m) → item op o u n ≡ item op o v n
   item-cong PLAIN n u v h = ap (one n) (h (suc n) (omega arith))
   item-cong BRK n u v h = ap (one n) (h (suc n) (omega arith))
   item-cong CONT n u v h = ap (one n) (h (suc n) (omega arith))
@@ -34,7 +43,7 @@ module _ (op : ℕ → Op) where
   item-cong SWITCH n u v h = rw (h (suc n) (omega arith), h (suc n + size (v (suc n))) (omega arith))
 
   module _ (N : ℕ) where
-    from-end : (f n : ℕ) → N ≤ n → listFrom op N f n ≡ nil
+    pub from-end : (f n : ℕ) → N ≤ n → listFrom op N f n ≡ nil
     unfolding listFrom
     from-end zero n h = refl
     from-end (suc f) n h = rw (le-ltb n N h)
@@ -58,15 +67,7 @@ module _ (op : ℕ → Op) where
 
     -- ---- The layout of any list
 
-    -- The list l is laid out from number a on: each instruction has the number after the one before it, and is one of N.
-    abbrev pub Laid : Items → ℕ → Type 0
-    Laid nil a = Unit {0}
-    Laid (one n rest) a = (n ≡ a) × (a < N) × Laid rest (suc a)
-    Laid (uif n p q rest) a = (n ≡ a) × (a < N) × Laid p (suc a) × Laid q (suc a + size p) × Laid rest (suc a + size p + size q)
-    Laid (loop n l rest) a = (n ≡ a) × (a < N) × Laid l (suc a) × Laid rest (suc a + size l)
-    Laid (switch n l rest) a = (n ≡ a) × (a < N) × Laid l (suc a) × Laid rest (suc a + size l)
-
-    item-laid : (o : Op) (n : ℕ) (from : ℕ → Items) → ((m : ℕ) → Laid (from m) m) → n < N → Laid (item op o from n) n
+    item-laid : (o : Op) (n : ℕ) (from : ℕ → Items) → ((m : ℕ) → Laid N (from m) m) → n < N → Laid N (item op o from n) n
     item-laid PLAIN n from h l = (refl, l, h (suc n))
     item-laid BRK n from h l = (refl, l, h (suc n))
     item-laid CONT n from h l = (refl, l, h (suc n))
@@ -82,23 +83,23 @@ module _ (op : ℕ → Op) where
           refl,
           l,
           h (suc n),
-          cond-cases (λ (x : Items). Laid x e) (is ELSE (op (n + size (from (suc n))))) (from e) nil (λ c. h e) (λ c. tt),
+          cond-cases (λ (x : Items). Laid N x e) (is ELSE (op (n + size (from (suc n))))) (from e) nil (λ c. h e) (λ c. tt),
           h _,
         )
     item-laid BGNLOOP n from h l = (refl, l, h (suc n), h _)
     item-laid SWITCH n from h l = (refl, l, h (suc n), h _)
 
-    from-laid : (f n : ℕ) → Laid (listFrom op N f n) n
+    from-laid : (f n : ℕ) → Laid N (listFrom op N f n) n
     unfolding listFrom
     from-laid zero n = tt
     from-laid (suc f) n =
-        cond-cases (λ (x : Items). Laid x n) (ltb n N) (item op (op n) (listFrom op N f) n) nil
+        cond-cases (λ (x : Items). Laid N x n) (ltb n N) (item op (op n) (listFrom op N f) n) nil
         (λ e. item-laid (op n) n (listFrom op N f) (from-laid f) (ltb-true n N e)) (λ e. tt)
 
-    pub list-laid : (n : ℕ) → Laid (listAt op N n) n
+    pub list-laid : (n : ℕ) → Laid N (listAt op N n) n
     list-laid n = from-laid N n
 
-    pub laid-fits : (l : Items) (a : ℕ) → Laid l a → a ≤ N → a + size l ≤ N
+    pub laid-fits : (l : Items) (a : ℕ) → Laid N l a → a ≤ N → a + size l ≤ N
     laid-fits nil a w h = omega arith
     laid-fits (one n rest) a w h = omega (arith, laid-fits rest (suc a) (w .2) (w .1))
     laid-fits (uif n p q rest) a w h =
@@ -113,7 +114,7 @@ module _ (op : ℕ → Op) where
         omega (arith, laid-fits rest (suc a + size l) (w .3) hl)
 
     -- A label is one of the instructions.
-    pub laid-label : (l : Items) (a : ℕ) → Laid l a → firstLabel op l ≤ N
+    pub laid-label : (l : Items) (a : ℕ) → Laid N l a → firstLabel op l ≤ N
     unfolding firstLabel
     laid-label nil a w = omega arith
     laid-label (one n rest) a w =

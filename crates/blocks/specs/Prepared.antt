@@ -72,8 +72,10 @@ module _ (kinds : List ℕ) where
   unfoldable pub singleIn : List ℕ → Targets → ℕ → List ℕ
   singleIn places t n = wordsOf (λ m. getD places m 0) n (rowOf opIn (opIn n) t (listIn (n + 1)) ∷ [])
 
--- The code has the kinds and places of a program's instructions.
+-- What `locate` finds: the kinds and byte places of a program's first `count` instructions, in lists for the most that there are.
 pub record Located (file : List ℕ) (start count : ℕ) (kinds places : List ℕ) : Type 0 where
+  pub kinds-length : length kinds ≡ mostInstructions
+  pub places-length : length places ≡ mostInstructions
   pub kind : (n : ℕ) → n < count → getD kinds n 0 ≡ kindFrom file start n
   pub place : (n : ℕ) → n < count → getD places n 0 ≡ placeFrom file start n
 

@@ -13,12 +13,15 @@ ghost use Rattle.blocks.specs.Control.{isLabel, opOf};
 ghost use Rattle.blocks.specs.Lists.{size};
 ghost use Rattle.blocks.specs.Nesting.{opens};
 ghost use Rattle.blocks.specs.Table.{jumpOf, firstLabel, rowWords};
-ghost use Rattle.blocks.specs.Prepared.{closes, opIn, listIn, blockIn, wordsIn, singleIn, Room, Near, Opening};
+ghost use Rattle.blocks.specs.Prepared.{closes, opIn, listIn, blockIn, wordsIn, singleIn, Located, Room, Near, Opening, filled};
 ghost use Rattle.blocks.specs.Run.{mostInstructions};
 ghost use Rattle.format.specs.Records.{longest, next};
 
 // Words of a row: byte place, jump, label.
 pub const ROW_WORDS: usize = 3;
+
+// No program has more.
+pub const MOST_INSTRUCTIONS: usize = 1024;
 
 // Where an instruction of a list goes: BRK; CONT and ENDLOOP; ELSE.
 pub struct Targets {
@@ -173,6 +176,29 @@ fn next_place(file: &[u8], at: usize) -> usize
     at + size
 }
 
+// The kinds and byte places of a program's instructions, and 0 past them.
+struct Instructions {
+    kinds: [u8; 1024],
+    places: [u32; 1024],
+}
+
+fn locate(file: &[u8], start: usize, count: usize) -> Instructions
+    requires { ⌜ (start ≤ length (now file)) × (length (now file) ≤ longest) × (count ≤ mostInstructions) ⌝ }
+    ensures { λ r. ⌜ Located (now (file .entry)) start count (r .kinds) (r .places) ⌝ }
+{
+    let mut kinds = [0u8; 1024];
+    let mut places = [0u32; 1024];
+    let mut at = start;
+    let mut n: usize = 0;
+    while n < count {
+        kinds[n] = byte_at(file, at);
+        places[n] = at as u32;
+        at = next_place(file, at);
+        n += 1;
+    }
+    Instructions { kinds, places }
+}
+
 // Writes the row of instruction n, which opens no block.
 fn single(kinds: &[u8], places: &[u32], work: &mut [u32], n: usize, targets: Targets)
     requires { ⌜ Room (now kinds) (now places) (now work) ⌝ }
@@ -253,4 +279,36 @@ fn opening(kinds: &[u8], places: &[u32], work: &mut [u32], n: usize, targets: Ta
         block(kinds, places, work, second, inside);
     }
     end
+}
+
+// Fills the table of a checked program: `count` instructions, the first at the byte place `start` of the file. Words past
+// the last row stay, and all words where the table cannot be made (`filled`).
+//
+// The cost is at most instructions times open blocks: `past_block` runs over a block once for each block around it, and
+// `next_label` over the instructions between two labels of one SWITCH, so over each once for each SWITCH around it. The
+// readers go one call of each deeper for each open block.
+pub fn fill(file: &[u8], start: usize, count: usize, work: &mut [u32])
+    ensures { λ _. ⌜ now (work .exit) ≡ filled (now (file .entry)) start count (now (work .entry)) ⌝ }
+{
+    if LONGEST < file.len() {
+        return;
+    }
+    if file.len() < start {
+        return;
+    }
+    if MOST_INSTRUCTIONS < count {
+        return;
+    }
+    if work.len() < ROW_WORDS * count {
+        return;
+    }
+    let found = locate(file, start, count);
+    let kinds = found.kinds;
+    let places = found.places;
+    let nowhere = Targets {
+        brk: 0,
+        cont: 0,
+        after: 0,
+    };
+    block(&kinds[..count], &places[..count], work, 0, nowhere);
 }
