@@ -14,7 +14,7 @@ use Rattle.blocks.specs.Prepared.{kindFrom, opFrom, tableWords, filled, 
 use Rattle.blocks.specs.Run.{mostInstructions}
 use Rattle.blocks.specs.Table.{nowhere, rowWords, rows, table, wordsOf}
 use Rattle.blocks.proofs.Agree.{length-rows}
-use Rattle.blocks.proofs.Lists.{list-fits}
+use Rattle.blocks.proofs.Laid.{list-fits}
 use Rattle.blocks.proofs.Same.{table-same, words-same}
 
 pub near-none : Near nowhere

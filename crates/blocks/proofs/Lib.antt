@@ -2,11 +2,11 @@ pub mod Agree
 pub mod Correct
 pub mod Examples
 pub mod Fill
-pub mod Lists
+pub mod Laid
+pub mod Located
 pub mod Nested
 pub mod Ops
 pub mod Parse
-pub mod Places
 pub mod Readers
 pub mod Rows
 pub mod Same

@@ -14,7 +14,7 @@ use Rattle.blocks.specs.Lists.{Items, nil, one, uif, loop, switch, size,
 use Rattle.blocks.specs.Nesting.{opens}
 use Rattle.blocks.specs.Prepared.{closes, blockOf, opIn, listIn, blockIn}
 use Rattle.blocks.specs.Table.{firstLabel}
-use Rattle.blocks.proofs.Lists.{cond-cases, list-item, list-end, list-fits}
+use Rattle.blocks.proofs.Laid.{cond-cases, list-item, list-end, list-fits}
 use Rattle.blocks.proofs.Ops.{uif-kind, loop-kind, switch-kind, else-kind, loop-or-switch, not-else, last-no-label}
 
 -- ---- By the instruction

@@ -16,7 +16,7 @@ use Rattle.blocks.specs.Prepared.{closes, blockOf, opIn, listIn, blockIn
 use Rattle.blocks.specs.Run.{mostInstructions}
 use Rattle.blocks.specs.Table.{Row, row, Targets, inUif, inLoop, inSwitch, jumpOf, firstLabel, rowOf, uifRow, loopRow, switchRow, rows, rowWords, wordsOf}
 use Rattle.blocks.proofs.Agree.{length-rows}
-use Rattle.blocks.proofs.Lists.{list-laid, laid-label}
+use Rattle.blocks.proofs.Laid.{list-laid, laid-label}
 use Rattle.blocks.proofs.Ops.{uif-left, last-no-label}
 use Rattle.blocks.proofs.Readers.{list-within, past-end, at-last, at-plain, at-opening, at-loop, at-switch, at-uif}
 use Rattle.blocks.proofs.Words.{rows-then}

@@ -11,7 +11,7 @@ use borrow.Author.Tests.{ltb-true, ltb-false}
 use Rattle.blocks.specs.Control.{Op, PLAIN, ELSE, ENDIF, BGNLOOP, ENDLOOP, BRK, CONT, DEFAULT, ENDSWITCH, END, UIF, SWITCH, CASE, is}
 use Rattle.blocks.specs.Lists.{Items, nil, one, uif, loop, switch, size, item, listFrom, nestedLists}
 use Rattle.blocks.specs.Table.{Row, Targets, inUif, inLoop, inSwitch, nowhere, firstLabel, rows, table, wordsOf}
-use Rattle.blocks.proofs.Lists.{Laid, item-cong, from-end, list-laid}
+use Rattle.blocks.proofs.Laid.{Laid, item-cong, from-end, list-laid}
 
 cond-same : {A : Type 0} (t : Bool) (x : A) → cond t x x ≡ x
 cond-same true x = refl

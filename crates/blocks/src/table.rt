@@ -1,21 +1,29 @@
 // The prepared table. Two readers that call each other fill it: `block` reads a list of instructions, `opening` the block
 // that one of them opens.
-use format::fields::byte_at;
+use crate::lists::BGNLOOP;
+use crate::lists::BRK;
+use crate::lists::CONT;
+use crate::lists::ELSE;
+use crate::lists::ENDLOOP;
+use crate::lists::SWITCH;
+use crate::lists::is_last;
+use crate::lists::is_opening;
+use crate::lists::label_of;
+use crate::lists::next_label;
+use crate::lists::past;
+use crate::lists::past_block;
+use crate::places::locate;
 use format::records::LONGEST;
-use format::records::size_at;
 ghost use mathlib.Core.Path.{_≡_};
-ghost use Prim.Native.Nat.{_+_, _*_, _<_, _≤_};
-ghost use mathlib.Core.Bool.{cond};
 ghost use mathlib.Core.List.{_∷_, []};
-ghost use lib.ListN.{getD, length};
+ghost use Prim.Native.Nat.{_+_, _*_, _<_, _≤_};
+ghost use lib.ListN.{length};
 ghost use lib.Seq.{sets};
-ghost use Rattle.blocks.specs.Control.{isLabel, opOf};
+ghost use Rattle.blocks.specs.Control.{opOf};
 ghost use Rattle.blocks.specs.Lists.{size};
-ghost use Rattle.blocks.specs.Nesting.{opens};
-ghost use Rattle.blocks.specs.Table.{jumpOf, firstLabel, rowWords};
-ghost use Rattle.blocks.specs.Prepared.{closes, opIn, listIn, blockIn, wordsIn, singleIn, Located, Room, Near, Opening, filled};
+ghost use Rattle.blocks.specs.Prepared.{listIn, blockIn, wordsIn, singleIn, Room, Near, Opening, filled};
 ghost use Rattle.blocks.specs.Run.{mostInstructions};
-ghost use Rattle.format.specs.Records.{longest, next};
+ghost use Rattle.blocks.specs.Table.{jumpOf, rowWords};
 
 // Words of a row: byte place, jump, label.
 pub const ROW_WORDS: usize = 3;
@@ -30,127 +38,17 @@ pub struct Targets {
     pub after: usize,
 }
 
-// Whether a kind is a mark that ends its list: ELSE, ENDIF, ENDLOOP, ENDSWITCH, END.
-fn is_last(kind: u8) -> bool
-    ensures { λ r. ⌜ r ≡ closes (opOf kind) ⌝ }
-{
-    match kind {
-        0x81 => true,
-        0x82 => true,
-        0x84 => true,
-        0x88 => true,
-        0x89 => true,
-        _ => false,
-    }
-}
-
-// Whether a kind opens a block: BGNLOOP, UIF, SWITCH.
-fn is_opening(kind: u8) -> bool
-    ensures { λ r. ⌜ r ≡ opens (opOf kind) ⌝ }
-{
-    match kind {
-        0x83 => true,
-        0x90 => true,
-        0x91 => true,
-        _ => false,
-    }
-}
-
-// Whether a kind is a label: DEFAULT, CASE.
-fn is_label(kind: u8) -> bool
-    ensures { λ r. ⌜ r ≡ isLabel (opOf kind) ⌝ }
-{
-    match kind {
-        0x87 => true,
-        0x92 => true,
-        _ => false,
-    }
-}
-
 // The jump of an instruction that opens no block: of ELSE, ENDLOOP, BRK and CONT.
 fn jump_of(kind: u8, targets: Targets) -> usize
     ensures { λ r. ⌜ r ≡ jumpOf (opOf kind) targets ⌝ }
 {
     match kind {
-        0x81 => targets.after,
-        0x84 => targets.cont,
-        0x85 => targets.brk,
-        0x86 => targets.cont,
+        ELSE => targets.after,
+        ENDLOOP => targets.cont,
+        BRK => targets.brk,
+        CONT => targets.cont,
         _ => 0,
     }
-}
-
-// The number past the block that instruction n opens; n itself where it opens none.
-fn past_block(kinds: &[u8], n: usize) -> usize
-    ensures { λ r. ⌜ r ≡ n + size (blockIn (now (kinds .entry)) n) ⌝ }
-{
-    if kinds.len() <= n {
-        return n;
-    }
-    let kind = kinds[n];
-    if is_opening(kind) {
-        let p = past(kinds, n + 1);
-        // A first part that ends with ELSE has a second one after it.
-        if kind == 0x90 {
-            if kinds[p - 1] == 0x81 {
-                return past(kinds, p);
-            }
-        }
-        return p;
-    }
-    n
-}
-
-// The number past the list that starts at instruction n.
-fn past(kinds: &[u8], n: usize) -> usize
-    ensures { λ r. ⌜ r ≡ n + size (listIn (now (kinds .entry)) n) ⌝ }
-{
-    let mut m = n;
-    while m < kinds.len() {
-        let kind = kinds[m];
-        if is_last(kind) {
-            return m + 1;
-        }
-        if is_opening(kind) {
-            m = past_block(kinds, m);
-        } else {
-            m += 1;
-        }
-    }
-    m
-}
-
-// The first own label of the list that starts at instruction n, 0 for none.
-fn next_label(kinds: &[u8], n: usize) -> usize
-    ensures { λ r. ⌜ r ≡ firstLabel (opIn (now (kinds .entry))) (listIn (now (kinds .entry)) n) ⌝ }
-{
-    let mut m = n;
-    while m < kinds.len() {
-        let kind = kinds[m];
-        if is_last(kind) {
-            return 0;
-        }
-        if is_opening(kind) {
-            m = past_block(kinds, m);
-        } else {
-            if is_label(kind) {
-                return m;
-            }
-            m += 1;
-        }
-    }
-    0
-}
-
-// The label of instruction n, which opens no block: a label has the next one.
-fn label_of(kinds: &[u8], n: usize) -> usize
-    requires { ⌜ n < length (now kinds) ⌝ }
-    ensures { λ r. ⌜ r ≡ cond (isLabel (opIn (now (kinds .entry)) n)) (firstLabel (opIn (now (kinds .entry))) (listIn (now (kinds .entry)) (n + 1))) 0 ⌝ }
-{
-    if is_label(kinds[n]) {
-        return next_label(kinds, n + 1);
-    }
-    0
 }
 
 // Writes row n.
@@ -162,41 +60,6 @@ fn put_row(work: &mut [u32], n: usize, place: u32, jump: usize, label: usize)
     work[at] = place;
     work[at + 1] = jump as u32;
     work[at + 2] = label as u32;
-}
-
-// The place that the walk reaches from a place after one record.
-fn next_place(file: &[u8], at: usize) -> usize
-    requires { ⌜ (at ≤ length (now file)) × (length (now file) ≤ longest) ⌝ }
-    ensures { λ r. ⌜ r ≡ next (now (file .entry)) at ⌝ }
-{
-    let size = size_at(file, at);
-    if size == 0 {
-        return file.len();
-    }
-    at + size
-}
-
-// The kinds and byte places of a program's instructions, and 0 past them.
-struct Instructions {
-    kinds: [u8; 1024],
-    places: [u32; 1024],
-}
-
-fn locate(file: &[u8], start: usize, count: usize) -> Instructions
-    requires { ⌜ (start ≤ length (now file)) × (length (now file) ≤ longest) × (count ≤ mostInstructions) ⌝ }
-    ensures { λ r. ⌜ Located (now (file .entry)) start count (r .kinds) (r .places) ⌝ }
-{
-    let mut kinds = [0u8; 1024];
-    let mut places = [0u32; 1024];
-    let mut at = start;
-    let mut n: usize = 0;
-    while n < count {
-        kinds[n] = byte_at(file, at);
-        places[n] = at as u32;
-        at = next_place(file, at);
-        n += 1;
-    }
-    Instructions { kinds, places }
 }
 
 // Writes the row of instruction n, which opens no block.
@@ -247,7 +110,7 @@ fn opening(kinds: &[u8], places: &[u32], work: &mut [u32], n: usize, targets: Ta
     let end = past_block(kinds, n);
     let kind = kinds[n];
     let place = places[n];
-    if kind == 0x83 {
+    if kind == BGNLOOP {
         put_row(work, n, place, 0, 0);
         let inside = Targets {
             brk: end,
@@ -257,7 +120,7 @@ fn opening(kinds: &[u8], places: &[u32], work: &mut [u32], n: usize, targets: Ta
         block(kinds, places, work, n + 1, inside);
         return end;
     }
-    if kind == 0x91 {
+    if kind == SWITCH {
         put_row(work, n, place, end, next_label(kinds, n + 1));
         let inside = Targets {
             brk: end,

@@ -19,11 +19,11 @@ use Rattle.blocks.proofs.table.+block+opening.Lts-block as block-lts
 use Rattle.blocks.proofs.table.opening.Reads as opening
 use Rattle.blocks.proofs.table.opening.Kinds as opening-kinds
 use Rattle.blocks.proofs.table.+block+opening.Lts-opening as opening-lts
-use Rattle.blocks.proofs.table.is_last.Reads as is-last-reads
-use Rattle.blocks.proofs.table.is_opening.Reads as is-opening-reads
-use Rattle.blocks.proofs.table.next_label.Reads as next-label-reads
-use Rattle.blocks.proofs.table.past.Reads as past-reads
-use Rattle.blocks.proofs.table.past_block.Reads as past-block-reads
+use Rattle.blocks.proofs.lists.is_last.Reads as is-last-reads
+use Rattle.blocks.proofs.lists.is_opening.Reads as is-opening-reads
+use Rattle.blocks.proofs.lists.next_label.Reads as next-label-reads
+use Rattle.blocks.proofs.lists.past.Reads as past-reads
+use Rattle.blocks.proofs.lists.past_block.Reads as past-block-reads
 use Rattle.blocks.proofs.table.put_row.Reads as put-row-reads
 use Rattle.blocks.proofs.table.single.Reads as single-reads
 use Rattle.blocks.proofs.table.+block+opening.{statement}

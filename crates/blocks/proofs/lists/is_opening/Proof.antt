@@ -4,8 +4,8 @@ use borrow.Author.Needs.{needs}
 use Rattle.blocks.specs.Control.{opOf}
 use Rattle.blocks.specs.Nesting.{opens}
 use Rattle.blocks.proofs.Ops.{kind-at, not-opening}
-use Rattle.blocks.proofs.table.is_opening.Statement.{statement}
-use Rattle.blocks.proofs.table.is_opening.Tie as tie
+use Rattle.blocks.proofs.lists.is_opening.Statement.{statement}
+use Rattle.blocks.proofs.lists.is_opening.Tie as tie
 
 pub is-opening-spec : {M : Type 1} → statement M
 unfolding opOf

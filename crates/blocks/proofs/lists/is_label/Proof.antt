@@ -3,8 +3,8 @@
 use borrow.Author.Needs.{needs}
 use Rattle.blocks.specs.Control.{isLabel, opOf}
 use Rattle.blocks.proofs.Ops.{kind-at, not-label}
-use Rattle.blocks.proofs.table.is_label.Statement.{statement}
-use Rattle.blocks.proofs.table.is_label.Tie as tie
+use Rattle.blocks.proofs.lists.is_label.Statement.{statement}
+use Rattle.blocks.proofs.lists.is_label.Tie as tie
 
 pub is-label-spec : {M : Type 1} → statement M
 unfolding opOf

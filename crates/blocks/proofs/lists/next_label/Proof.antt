@@ -7,8 +7,8 @@ use lib.ListN.{length}
 use Rattle.blocks.specs.Prepared.{opIn, listIn}
 use Rattle.blocks.specs.Table.{firstLabel}
 use Rattle.blocks.proofs.Readers.{left-falls, label-stop, label-last, label-found, label-plain, label-opening}
-use Rattle.blocks.proofs.table.next_label.Statement.{statement}
-use Rattle.blocks.proofs.table.next_label.Tie as tie
+use Rattle.blocks.proofs.lists.next_label.Statement.{statement}
+use Rattle.blocks.proofs.lists.next_label.Tie as tie
 
 abbrev Inv-loop : tie.InvT-loop
 Inv-loop kinds n m₀ m = firstLabel (opIn kinds) (listIn kinds m) ≡ firstLabel (opIn kinds) (listIn kinds n)

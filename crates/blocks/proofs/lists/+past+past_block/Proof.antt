@@ -11,16 +11,16 @@ use lib.ListN.{length}
 use Rattle.blocks.specs.Lists.{size}
 use Rattle.blocks.specs.Prepared.{listIn}
 use Rattle.blocks.proofs.Readers.{last-within, left-falls, past-stop, past-last, past-plain, past-opening, ends-none, ends-plain, ends-other, ends-if, ends-else}
-use Rattle.blocks.proofs.table.past.Reads as past
-use Rattle.blocks.proofs.table.past.Kinds as past-kinds
-use Rattle.blocks.proofs.table.+past+past_block.Lts-past as past-lts
-use Rattle.blocks.proofs.table.past_block.Reads as past-block
-use Rattle.blocks.proofs.table.past_block.Kinds as past-block-kinds
-use Rattle.blocks.proofs.table.+past+past_block.Lts-past_block as past-block-lts
-use Rattle.blocks.proofs.table.is_last.Reads as is-last-reads
-use Rattle.blocks.proofs.table.is_opening.Reads as is-opening-reads
-use Rattle.blocks.proofs.table.+past+past_block.{statement}
-use Rattle.blocks.proofs.table.+past+past_block.Tie.{close}
+use Rattle.blocks.proofs.lists.past.Reads as past
+use Rattle.blocks.proofs.lists.past.Kinds as past-kinds
+use Rattle.blocks.proofs.lists.+past+past_block.Lts-past as past-lts
+use Rattle.blocks.proofs.lists.past_block.Reads as past-block
+use Rattle.blocks.proofs.lists.past_block.Kinds as past-block-kinds
+use Rattle.blocks.proofs.lists.+past+past_block.Lts-past_block as past-block-lts
+use Rattle.blocks.proofs.lists.is_last.Reads as is-last-reads
+use Rattle.blocks.proofs.lists.is_opening.Reads as is-opening-reads
+use Rattle.blocks.proofs.lists.+past+past_block.{statement}
+use Rattle.blocks.proofs.lists.+past+past_block.Tie.{close}
 
 abbrev μ-past : Measures 1 past-kinds.ps ℕ
 μ-past κs a = 2 * (length (a .0 .now) - a .1 .0) + 1

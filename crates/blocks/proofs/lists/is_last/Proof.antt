@@ -4,8 +4,8 @@ use borrow.Author.Needs.{needs}
 use Rattle.blocks.specs.Control.{opOf}
 use Rattle.blocks.specs.Prepared.{closes}
 use Rattle.blocks.proofs.Ops.{kind-at, not-last}
-use Rattle.blocks.proofs.table.is_last.Statement.{statement}
-use Rattle.blocks.proofs.table.is_last.Tie as tie
+use Rattle.blocks.proofs.lists.is_last.Statement.{statement}
+use Rattle.blocks.proofs.lists.is_last.Tie as tie
 
 pub is-last-spec : {M : Type 1} → statement M
 unfolding opOf
