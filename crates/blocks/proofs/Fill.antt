@@ -1,21 +1,27 @@
 -- The words that `fill` leaves: the table's where there is room, and the old ones where there is none.
 -- Assumes nothing.
-use mathlib.Core.Path.{_≡_, refl, sym, ap, _∙_}
-use mathlib.Core.List.{List}
+use mathlib.Core.Path.{_≡_, refl, sym, ap, ap₂, _∙_}
+use mathlib.Core.Bool.{Bool, true, false, cond, _&&_, false≢true}
+use mathlib.Core.List.{List, []}
 use Prim.Native.Nat.{ℕ, _+_, _*_, _≤_, _<_}
 use native.Mathlib.Omega.{arith}
+use native.Mathlib.Nat.{zero-add}
+use lib.Dec.{leb}
 use lib.ListN.{length, getD, take}
-use lib.Seq.{sets, length-take-le, getD-take}
-use borrow.Author.Tests.{le-leb, lt-leb}
+use lib.Seq.{sets, length-sets, length-take-le, getD-take}
+use borrow.Author.Tests.{le-leb, lt-leb, leb-true}
 use Rattle.format.specs.Records.{longest, placeFrom}
 use Rattle.blocks.specs.Control.{Op, opOf}
 use Rattle.blocks.specs.Lists.{size, nestedLists}
-use Rattle.blocks.specs.Prepared.{kindFrom, opFrom, tableWords, filled, opIn, listIn, wordsIn, Located, Room, Near}
+use Rattle.blocks.specs.Nesting.{accepts}
+use Rattle.blocks.specs.Prepared.{kindFrom, opFrom, tableWords, hasRoom, filled, opIn, listIn, wordsIn, Located, Room, Near}
 use Rattle.blocks.specs.Run.{mostInstructions}
-use Rattle.blocks.specs.Table.{nowhere, rowWords, rows, table, wordsOf}
+use Rattle.blocks.specs.Table.{Row, row, nowhere, rows, table, rowAt, rowWords, placeIn, rowIn, wordsOf}
 use Rattle.blocks.proofs.Agree.{length-rows}
 use Rattle.blocks.proofs.Laid.{list-fits}
+use Rattle.blocks.proofs.Correct.{rows-count}
 use Rattle.blocks.proofs.Same.{table-same, words-same}
+use Rattle.blocks.proofs.Words.{length-words, words-place, words-row, getD-stored}
 
 pub near-none : Near nowhere
 near-none = record { brk = omega arith; cont = omega arith; after = omega arith }
@@ -91,3 +97,65 @@ module _ (file : List ℕ) (start count : ℕ) (work : List ℕ) where
                 le-leb (rowWords * count) (length work) h,
               )
               (e ∙ rw words)
+
+-- ---- The rows of the filled words
+
+pub filled-length : (file : List ℕ) (start count : ℕ) (work : List ℕ) → length (filled file start count work) ≡ length work
+unfolding filled
+filled-length file start count work = on (hasRoom file start count work)
+  where
+    on : (t : Bool) → length (cond t (sets work 0 (tableWords file start count)) work) ≡ length work
+    on true = length-sets work 0 (tableWords file start count)
+    on false = refl
+
+last-two : (a b c d : Bool) → (a && b && c && d) ≡ true → (c ≡ true) × (d ≡ true)
+last-two true true true true h = (refl, refl)
+last-two true true true false h = absurd (false≢true h)
+last-two true true false d h = absurd (false≢true h)
+last-two true false c d h = absurd (false≢true h)
+last-two false b c d h = absurd (false≢true h)
+
+module _ (file : List ℕ) (start count : ℕ) (work : List ℕ) (room : hasRoom file start count work ≡ true) where
+  tests : (leb count mostInstructions ≡ true) × (leb (rowWords * count) (length work) ≡ true)
+  tests =
+      last-two (leb (length file) longest) (leb start (length file)) (leb count mostInstructions)
+      (leb (rowWords * count) (length work)) room
+
+  pub room-few : count ≤ mostInstructions
+  room-few = leb-true count mostInstructions (tests .0)
+
+  pub room-rows : rowWords * count ≤ length work
+  room-rows = leb-true (rowWords * count) (length work) (tests .1)
+
+-- Of an accepted program, by the instruction's number.
+module _ (file : List ℕ) (start count : ℕ) (work : List ℕ) (value : ℕ → ℕ)
+    (room : hasRoom file start count work ≡ true)
+    (ok : accepts (opFrom file start) value count 0 [] ≡ true)
+  where
+    fits : rowWords * count ≤ length work
+    fits = room-rows file start count work room
+
+    T : List Row
+    T = table (opFrom file start) (nestedLists (opFrom file start) count)
+
+    word : (i : ℕ) → i < rowWords * count → getD (filled file start count work) i 0 ≡ getD (wordsOf (placeFrom file start) 0 T) i 0
+    unfolding filled tableWords T
+    word i h =
+        let n : length (wordsOf (placeFrom file start) 0 T) ≡ rowWords * count
+        = length-words (placeFrom file start) 0 T ∙ ap (λ m. rowWords * m) (rows-count (opFrom file start) value count ok) in
+        rw room (getD-stored work (wordsOf (placeFrom file start) 0 T) i (omega (arith, fits)) (omega arith))
+
+    pub filled-place : (n : ℕ) → n < count → placeIn (filled file start count work) n ≡ placeFrom file start n
+    unfolding T
+    filled-place n h =
+        word (rowWords * n) (omega arith)
+        ∙ words-place (placeFrom file start) 0 T n (omega (arith, rows-count (opFrom file start) value count ok))
+        ∙ ap (placeFrom file start) (zero-add n)
+
+    pub filled-row : (n : ℕ)
+        → n < count
+        → rowIn (filled file start count work) n ≡ rowAt (table (opFrom file start) (nestedLists (opFrom file start) count)) n
+    unfolding T
+    filled-row n h =
+        ap₂ row (word (rowWords * n + 1) (omega arith)) (word (rowWords * n + 2) (omega arith))
+        ∙ words-row (placeFrom file start) 0 T n

@@ -1,13 +1,13 @@
 -- The words of a table's rows, by the instruction's number.
 -- Assumes nothing.
 use mathlib.Core.Path.{_≡_, refl, ap, _∙_}
-use Prim.Native.Nat.{ℕ, zero, suc, _+_, _*_, _<_}
+use Prim.Native.Nat.{ℕ, zero, suc, _+_, _*_, _<_, _≤_}
 use native.Mathlib.Omega.{arith}
 use native.Mathlib.Nat.{add-zero, add-suc, suc-add}
 use native.Mathlib.Numerals.{add-one}
 use mathlib.Core.List.{List, [], _∷_, _++_}
-use lib.ListN.{length, set}
-use lib.Seq.{sets}
+use lib.ListN.{length, getD, set, drop, List·getD-append}
+use lib.Seq.{sets, sets-eq}
 use Rattle.blocks.specs.Table.{Row, rowAt, rowWords, placeIn, rowIn, wordsOf}
 
 three : (i k : ℕ) → rowWords * suc i + k ≡ suc (suc (suc (rowWords * i + k)))
@@ -53,6 +53,10 @@ pub rows-then : (place : ℕ → ℕ) (n m : ℕ) (R R′ : List Row) (w w1 w2 :
 rows-then place n m R R′ w w1 w2 a e b =
     let i : rowWords * m ≡ rowWords * n + length (wordsOf place n R) = omega (arith, length-words place n R) in
     b ∙ rw (a, i, e, words-append place n R R′) (sets-append w (rowWords * n) (wordsOf place n R) (wordsOf place (n + length R) R′))
+
+-- Words stored from the front.
+pub getD-stored : (l vs : List ℕ) (i : ℕ) → length vs ≤ length l → i < length vs → getD (sets l 0 vs) i 0 ≡ getD vs i 0
+getD-stored l vs i h k = rw (sets-eq vs l 0 (omega arith)) (List·getD-append vs (drop (0 + length vs) l) 0 i k)
 
 -- Three stores one after the other.
 pub stores : (l : List ℕ) (i a b c : ℕ) → set (set (set l i a) (i + 1) b) (i + 2) c ≡ sets l i (a ∷ b ∷ c ∷ [])
