@@ -52,11 +52,11 @@ module _ (kinds places work : List ℕ) (room : Room kinds places work) where
   label-near false n l d = omega arith
 
   module _ (n e : ℕ) (h : n < length kinds) (d : e ≡ n + size (blockIn kinds n)) where
-    pub near-loop : Near (record { brk = e; cont = n + 1; after = 0 })
-    near-loop = record { brk = end-near n e h d; cont = omega (arith, room .few); after = omega arith }
+    pub near-loop : (u : Targets) → u ≡ record { brk = e; cont = n + 1; after = 0 } → Near u
+    near-loop u g = rw g (record { brk = end-near n e h d; cont = omega (arith, room .few); after = omega arith })
 
-    pub near-switch : (t : Targets) → Near t → Near (record { brk = e; cont = t .cont; after = 0 })
-    near-switch t near = record { brk = end-near n e h d; cont = near .cont; after = omega arith }
+    pub near-switch : (t u : Targets) → Near t → u ≡ record { brk = e; cont = t .cont; after = 0 } → Near u
+    near-switch t u near g = rw g (record { brk = end-near n e h d; cont = near .cont; after = omega arith })
 
     pub near-uif : (t : Targets) → Near t → Near (record { brk = t .brk; cont = t .cont; after = e })
     near-uif t near = record { brk = near .brk; cont = near .cont; after = end-near n e h d }
@@ -176,31 +176,35 @@ module _ (kinds places : List ℕ) (t : Targets) where
     list : Items
     list = listIn kinds (suc n)
 
-    pub open-loop : getD kinds n 0 ≡ 0x83
+    pub open-loop : (u : Targets)
+        → u ≡ record { brk = e; cont = n + 1; after = 0 }
+        → getD kinds n 0 ≡ 0x83
         → w1 ≡ sets w (rowWords * n) (getD places n 0 ∷ 0 ∷ 0 ∷ [])
         → (w2 : List ℕ)
-        → w2 ≡ sets w1 (rowWords * (n + 1)) (wordsIn kinds places (record { brk = e; cont = n + 1; after = 0 }) (n + 1) (listIn kinds (n + 1)))
+        → w2 ≡ sets w1 (rowWords * (n + 1)) (wordsIn kinds places u (n + 1) (listIn kinds (n + 1)))
         → w2 ≡ sets w (rowWords * n) (wordsIn kinds places t n (blockIn kinds n))
     unfolding wordsIn wordsOf rows list
-    open-loop k wrote w2 inside =
+    open-loop u g k wrote w2 inside =
         let fin : e ≡ suc n + size list = ends ∙ rw (at-loop kinds n h k) (omega arith) in
         rw (at-loop kinds n h k, append-nil (rows op (inLoop n list) list))
         (rows-then place n (suc n) (loopRow op ∷ []) (rows op (inLoop n list) list) w w1 w2 wrote (omega arith)
-        (rw (fin, add-one n) at inside))
+        (rw (g, fin, add-one n) at inside))
 
-    pub open-switch : getD kinds n 0 ≡ 0x91
+    pub open-switch : (u : Targets)
+        → u ≡ record { brk = e; cont = t .cont; after = 0 }
+        → getD kinds n 0 ≡ 0x91
         → (l : ℕ)
         → l ≡ firstLabel (opIn kinds) (listIn kinds (n + 1))
         → w1 ≡ sets w (rowWords * n) (getD places n 0 ∷ e ∷ l ∷ [])
         → (w2 : List ℕ)
-        → w2 ≡ sets w1 (rowWords * (n + 1)) (wordsIn kinds places (record { brk = e; cont = t .cont; after = 0 }) (n + 1) (listIn kinds (n + 1)))
+        → w2 ≡ sets w1 (rowWords * (n + 1)) (wordsIn kinds places u (n + 1) (listIn kinds (n + 1)))
         → w2 ≡ sets w (rowWords * n) (wordsIn kinds places t n (blockIn kinds n))
     unfolding wordsIn wordsOf rows list
-    open-switch k l label wrote w2 inside =
+    open-switch u g k l label wrote w2 inside =
         let fin : e ≡ suc n + size list = ends ∙ rw (at-switch kinds n h k) (omega arith) in
         rw (at-switch kinds n h k, append-nil (rows op (inSwitch n list t) list))
         (rows-then place n (suc n) (switchRow op n list ∷ []) (rows op (inSwitch n list t) list) w w1 w2
-        (rw (fin, label, add-one n) at wrote) (omega arith) (rw (fin, add-one n) at inside))
+        (rw (fin, label, add-one n) at wrote) (omega arith) (rw (g, fin, add-one n) at inside))
 
     -- A UIF's first part ends before number p, and is written.
     module _ (p : ℕ) (w2 : List ℕ)
@@ -245,10 +249,10 @@ module _ (kinds places : List ℕ) (t : Targets) where
         open-else lt w3 more =
             at-uif kinds n h (λ l. e ≡ n + size l → w3 ≡ sets w (rowWords * n) (wordsOf place n (rows op t l))) k
             (λ q second fin.
-            let u : Targets = inUif n list q t in
+            let v : Targets = inUif n list q t in
             let fin′ : e ≡ suc n + size list + size q = omega arith in
             let same : listIn kinds p ≡ q = rw part (sym (second (omega (arith, part)))) in
-            rw (append-nil (rows op u q))
-            (rows-then place n p (uifRow op n list ∷ rows op u list) (rows op u q) w w2 w3 (first-rows q fin)
-            (omega (arith, part, length-rows op u list)) (rw (same, fin′) at more)))
+            rw (append-nil (rows op v q))
+            (rows-then place n p (uifRow op n list ∷ rows op v list) (rows op v q) w w2 w3 (first-rows q fin)
+            (omega (arith, part, length-rows op v list)) (rw (same, fin′) at more)))
             ends

@@ -38,6 +38,27 @@ pub struct Targets {
     pub after: usize,
 }
 
+// The targets in a loop's list, which starts at `list`, and in a SWITCH's; `end` comes after the block.
+fn in_loop(list: usize, end: usize) -> Targets
+    ensures { λ r. ⌜ r ≡ record { brk = end; cont = list; after = 0 } ⌝ }
+{
+    Targets {
+        brk: end,
+        cont: list,
+        after: 0,
+    }
+}
+
+fn in_switch(end: usize, around: Targets) -> Targets
+    ensures { λ r. ⌜ r ≡ record { brk = end; cont = around .cont; after = 0 } ⌝ }
+{
+    Targets {
+        brk: end,
+        cont: around.cont,
+        after: 0,
+    }
+}
+
 // The jump of an instruction that opens no block: of ELSE, ENDLOOP, BRK and CONT.
 fn jump_of(kind: u8, targets: Targets) -> usize
     ensures { λ r. ⌜ r ≡ jumpOf (opOf kind) targets ⌝ }
@@ -112,22 +133,12 @@ fn opening(kinds: &[u8], places: &[u32], work: &mut [u32], n: usize, targets: Ta
     let place = places[n];
     if kind == BGNLOOP {
         put_row(work, n, place, 0, 0);
-        let inside = Targets {
-            brk: end,
-            cont: n + 1,
-            after: 0,
-        };
-        block(kinds, places, work, n + 1, inside);
+        block(kinds, places, work, n + 1, in_loop(n + 1, end));
         return end;
     }
     if kind == SWITCH {
         put_row(work, n, place, end, next_label(kinds, n + 1));
-        let inside = Targets {
-            brk: end,
-            cont: targets.cont,
-            after: 0,
-        };
-        block(kinds, places, work, n + 1, inside);
+        block(kinds, places, work, n + 1, in_switch(end, targets));
         return end;
     }
     let second = past(kinds, n + 1);
@@ -147,9 +158,9 @@ fn opening(kinds: &[u8], places: &[u32], work: &mut [u32], n: usize, targets: Ta
 // Fills the table of a checked program: `count` instructions, the first at the byte place `start` of the file. Words past
 // the last row stay, and all words where the table cannot be made (`filled`).
 //
-// The cost is at most instructions times open blocks: `past_block` runs over a block once for each block around it, and
-// `next_label` over the instructions between two labels of one SWITCH, so over each once for each SWITCH around it. The
-// readers go one call of each deeper for each open block.
+// The cost is in proportion to instructions times open blocks. `opening` looks ahead for the end of its block, so an
+// instruction is passed once for each block around it. `next_label` goes from a label to the next of its own SWITCH, so all
+// the labels of a SWITCH together pass its list once. Calls are two deep for each open block, whatever the instructions.
 pub fn fill(file: &[u8], start: usize, count: usize, work: &mut [u32])
     ensures { λ _. ⌜ now (work .exit) ≡ filled (now (file .entry)) start count (now (work .entry)) ⌝ }
 {

@@ -24,6 +24,8 @@ use Rattle.blocks.proofs.lists.is_opening.Reads as is-opening-reads
 use Rattle.blocks.proofs.lists.next_label.Reads as next-label-reads
 use Rattle.blocks.proofs.lists.past.Reads as past-reads
 use Rattle.blocks.proofs.lists.past_block.Reads as past-block-reads
+use Rattle.blocks.proofs.table.in_loop.Reads as in-loop-reads
+use Rattle.blocks.proofs.table.in_switch.Reads as in-switch-reads
 use Rattle.blocks.proofs.table.put_row.Reads as put-row-reads
 use Rattle.blocks.proofs.table.single.Reads as single-reads
 use Rattle.blocks.proofs.table.+block+opening.{statement}
@@ -65,10 +67,14 @@ opening-claims t = (
   past-block-reads.Learnt,
   put-row-reads.Asked,
   put-row-reads.Learnt,
+  in-loop-reads.Asked,
+  in-loop-reads.Learnt,
   block-below t,
   block.Post,
   next-label-reads.Asked,
   next-label-reads.Learnt,
+  in-switch-reads.Asked,
+  in-switch-reads.Learnt,
   past-reads.Asked,
   past-reads.Learnt,
 )
@@ -111,6 +117,7 @@ pub +block+opening-spec : {M : Type 1} → statement M
     (λ c κs. search needs)
     (λ c. search needs)
     (λ c. search needs)
+    (λ c κs. search needs)
     (λ c κs. (search needs, (search (needs, room-kept), search (needs, near-loop))))
     (λ c. search needs)
     (λ c. search (needs, open-loop))
@@ -118,6 +125,7 @@ pub +block+opening-spec : {M : Type 1} → statement M
     (λ c κs. search needs)
     (λ c κs. search (needs, end-near, first-near))
     (λ c. search needs)
+    (λ c κs. search needs)
     (λ c κs. (search needs, (search (needs, room-kept), search (needs, near-switch))))
     (λ c. search needs)
     (λ c. search (needs, open-switch))
