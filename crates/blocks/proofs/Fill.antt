@@ -14,7 +14,7 @@ use Rattle.format.specs.Records.{longest, placeFrom}
 use Rattle.blocks.specs.Control.{Op, opOf}
 use Rattle.blocks.specs.Lists.{size, nestedLists}
 use Rattle.blocks.specs.Nesting.{accepts}
-use Rattle.blocks.specs.Prepared.{kindFrom, opFrom, tableWords, hasRoom, filled, opIn, listIn, wordsIn, Located, Room, Near}
+use Rattle.blocks.specs.Prepared.{kindFrom, opFrom, tableWords, hasRoom, filled, opIn, listIn, wordsIn, Located, Room}
 use Rattle.blocks.specs.Run.{mostInstructions}
 use Rattle.blocks.specs.Table.{Row, row, nowhere, rows, table, rowAt, rowWords, placeIn, rowIn, wordsOf}
 use Rattle.blocks.proofs.Agree.{length-rows}
@@ -22,9 +22,6 @@ use Rattle.blocks.proofs.Laid.{list-fits}
 use Rattle.blocks.proofs.Correct.{rows-count}
 use Rattle.blocks.proofs.Same.{table-same, words-same}
 use Rattle.blocks.proofs.Words.{length-words, words-place, words-row, getD-stored}
-
-pub near-none : Near nowhere
-near-none = record { brk = omega arith; cont = omega arith; after = omega arith }
 
 -- ---- No room
 

@@ -51,15 +51,25 @@ module _ (kinds places work : List ℕ) (room : Room kinds places work) where
   label-near true n l d = first-near n l d
   label-near false n l d = omega arith
 
-  module _ (n e : ℕ) (h : n < length kinds) (d : e ≡ n + size (blockIn kinds n)) where
-    pub near-loop : (u : Targets) → u ≡ record { brk = e; cont = n + 1; after = 0 } → Near u
-    near-loop u g = rw g (record { brk = end-near n e h d; cont = omega (arith, room .few); after = omega arith })
+  pub next-near : (n : ℕ) → n < length kinds → n + 1 ≤ mostInstructions
+  next-near n h = omega (arith, room .few)
 
-    pub near-switch : (t u : Targets) → Near t → u ≡ record { brk = e; cont = t .cont; after = 0 } → Near u
-    near-switch t u near g = rw g (record { brk = end-near n e h d; cont = near .cont; after = omega arith })
+pub none-near : 0 ≤ mostInstructions
+none-near = omega arith
 
-    pub near-uif : (t : Targets) → Near t → Near (record { brk = t .brk; cont = t .cont; after = e })
-    near-uif t near = record { brk = near .brk; cont = near .cont; after = end-near n e h d }
+pub near-of : (b c a : ℕ)
+    → b ≤ mostInstructions
+    → c ≤ mostInstructions
+    → a ≤ mostInstructions
+    → Near (record { brk = b; cont = c; after = a })
+near-of b c a hb hc ha = record { brk = hb; cont = hc; after = ha }
+
+pub body-near : (t : Targets) (b c : ℕ)
+    → t ≡ record { brk = b; cont = c; after = 0 }
+    → b ≤ mostInstructions
+    → c ≤ mostInstructions
+    → Near t
+body-near t b c e hb hc = rw e (near-of b c 0 hb hc none-near)
 
 pub jump-near : (t : Targets) → Near t → (o : Op) (j : ℕ) → j ≡ jumpOf o t → j ≤ mostInstructions
 jump-near t near ELSE j d = omega (arith, near .after)

@@ -38,23 +38,13 @@ pub struct Targets {
     pub after: usize,
 }
 
-// The targets in a loop's list, which starts at `list`, and in a SWITCH's; `end` comes after the block.
-fn in_loop(list: usize, end: usize) -> Targets
-    ensures { λ r. ⌜ r ≡ record { brk = end; cont = list; after = 0 } ⌝ }
+// The targets in the list of a loop or a SWITCH, of which no ELSE is the last instruction.
+fn body_targets(brk: usize, cont: usize) -> Targets
+    ensures { λ r. ⌜ r ≡ record { brk = brk; cont = cont; after = 0 } ⌝ }
 {
     Targets {
-        brk: end,
-        cont: list,
-        after: 0,
-    }
-}
-
-fn in_switch(end: usize, around: Targets) -> Targets
-    ensures { λ r. ⌜ r ≡ record { brk = end; cont = around .cont; after = 0 } ⌝ }
-{
-    Targets {
-        brk: end,
-        cont: around.cont,
+        brk,
+        cont,
         after: 0,
     }
 }
@@ -133,12 +123,12 @@ fn opening(kinds: &[u8], places: &[u32], work: &mut [u32], n: usize, targets: Ta
     let place = places[n];
     if kind == BGNLOOP {
         put_row(work, n, place, 0, 0);
-        block(kinds, places, work, n + 1, in_loop(n + 1, end));
+        block(kinds, places, work, n + 1, body_targets(end, n + 1));
         return end;
     }
     if kind == SWITCH {
         put_row(work, n, place, end, next_label(kinds, n + 1));
-        block(kinds, places, work, n + 1, in_switch(end, targets));
+        block(kinds, places, work, n + 1, body_targets(end, targets.cont));
         return end;
     }
     let second = past(kinds, n + 1);

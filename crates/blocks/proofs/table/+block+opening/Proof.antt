@@ -12,7 +12,7 @@ use lib.Seq.{sets}
 use Rattle.blocks.specs.Prepared.{listIn, wordsIn, Room}
 use Rattle.blocks.specs.Table.{rowWords}
 use Rattle.blocks.proofs.Readers.{left-falls}
-use Rattle.blocks.proofs.Rows.{opens-block, length-kept, room-kept, end-near, near-loop, near-switch, near-uif, past-near, first-near, block-stop, block-last, block-plain, block-opening, open-loop, open-switch, open-if, open-else}
+use Rattle.blocks.proofs.Rows.{opens-block, length-kept, room-kept, end-near, next-near, near-of, body-near, past-near, first-near, block-stop, block-last, block-plain, block-opening, open-loop, open-switch, open-if, open-else}
 use Rattle.blocks.proofs.table.block.Reads as block
 use Rattle.blocks.proofs.table.block.Kinds as block-kinds
 use Rattle.blocks.proofs.table.+block+opening.Lts-block as block-lts
@@ -24,8 +24,7 @@ use Rattle.blocks.proofs.lists.is_opening.Reads as is-opening-reads
 use Rattle.blocks.proofs.lists.next_label.Reads as next-label-reads
 use Rattle.blocks.proofs.lists.past.Reads as past-reads
 use Rattle.blocks.proofs.lists.past_block.Reads as past-block-reads
-use Rattle.blocks.proofs.table.in_loop.Reads as in-loop-reads
-use Rattle.blocks.proofs.table.in_switch.Reads as in-switch-reads
+use Rattle.blocks.proofs.table.body_targets.Reads as body-targets-reads
 use Rattle.blocks.proofs.table.put_row.Reads as put-row-reads
 use Rattle.blocks.proofs.table.single.Reads as single-reads
 use Rattle.blocks.proofs.table.+block+opening.{statement}
@@ -67,14 +66,12 @@ opening-claims t = (
   past-block-reads.Learnt,
   put-row-reads.Asked,
   put-row-reads.Learnt,
-  in-loop-reads.Asked,
-  in-loop-reads.Learnt,
+  body-targets-reads.Asked,
+  body-targets-reads.Learnt,
   block-below t,
   block.Post,
   next-label-reads.Asked,
   next-label-reads.Learnt,
-  in-switch-reads.Asked,
-  in-switch-reads.Learnt,
   past-reads.Asked,
   past-reads.Learnt,
 )
@@ -118,7 +115,7 @@ pub +block+opening-spec : {M : Type 1} → statement M
     (λ c. search needs)
     (λ c. search needs)
     (λ c κs. search needs)
-    (λ c κs. (search needs, (search (needs, room-kept), search (needs, near-loop))))
+    (λ c κs. (search needs, (search (needs, room-kept), search (needs, body-near, end-near, next-near))))
     (λ c. search needs)
     (λ c. search (needs, open-loop))
     (λ c. search needs)
@@ -126,15 +123,15 @@ pub +block+opening-spec : {M : Type 1} → statement M
     (λ c κs. search (needs, end-near, first-near))
     (λ c. search needs)
     (λ c κs. search needs)
-    (λ c κs. (search needs, (search (needs, room-kept), search (needs, near-switch))))
+    (λ c κs. (search needs, (search (needs, room-kept), search (needs, body-near, end-near))))
     (λ c. search needs)
     (λ c. search (needs, open-switch))
     (λ c. search needs)
     (λ c κs. search needs)
     (λ c κs. search (needs, past-near))
     (λ c. search needs)
-    (λ c κs. (search needs, (search (needs, room-kept), search (needs, near-uif))))
-    (λ c κs. (search needs, (search (needs, room-kept), search (needs, near-uif))))
+    (λ c κs. (search needs, (search (needs, room-kept), search (needs, near-of, end-near))))
+    (λ c κs. (search needs, (search (needs, room-kept), search (needs, near-of, end-near))))
     (λ c. search needs)
     (λ c. (search needs, search (needs, open-else)))
     (λ c. search needs)

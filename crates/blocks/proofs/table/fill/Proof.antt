@@ -1,7 +1,8 @@
 -- `fill`: the words stay where there is no room; else the outermost list's rows, written from row 0, are the table.
 -- Assumes nothing.
 use borrow.Author.Needs.{needs}
-use Rattle.blocks.proofs.Fill.{file-long, start-late, too-many, work-short, kinds-part, places-part, fill-room, near-none, fill-table}
+use Rattle.blocks.proofs.Fill.{file-long, start-late, too-many, work-short, kinds-part, places-part, fill-room, fill-table}
+use Rattle.blocks.proofs.Rows.{near-of, none-near}
 use Rattle.blocks.proofs.table.fill.Statement.{statement}
 use Rattle.blocks.proofs.table.fill.Tie as tie
 
@@ -19,6 +20,6 @@ fill-spec =
     (λ c. search (needs, kinds-part))
     (search needs)
     (λ c. search (needs, places-part))
-    (λ c κs. (search (needs, fill-room), search (needs, near-none)))
+    (λ c κs. (search (needs, fill-room), search (needs, near-of, none-near)))
     (search needs)
     (λ c. search (needs, fill-table)))
