@@ -8,10 +8,10 @@ use lib.ListN.{getD, replicate}
 use Rattle.format.specs.Kinds.{lengthOf}
 use Rattle.format.specs.Records.{sizeAt, next, placeFrom}
 use Rattle.blocks.specs.Control.{DEFAULT, UIF, CASE, Machine, opOf, opAt}
-use Rattle.blocks.specs.Lists.{Items, nil, one, uif, loop, switch, listFrom, nestedLists}
+use Rattle.blocks.specs.Lists.{nil, one, loop, switch, listFrom, nestedLists}
 use Rattle.blocks.specs.Nesting.{openLoop, openSwitch, refused, rule, accepts}
 use Rattle.blocks.specs.Prepared.{tableWords}
-use Rattle.blocks.specs.Reading.{Reading, ended, halted, read, rounds, reading}
+use Rattle.blocks.specs.Reading.{ended, halted, read, rounds, reading}
 use Rattle.blocks.specs.Run.{walk, run}
 use Rattle.blocks.specs.Table.{row, rowAt, firstLabel, rows, table, wordsOf}
 

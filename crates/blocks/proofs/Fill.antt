@@ -12,11 +12,11 @@ use lib.Seq.{sets, length-sets, length-take-le, getD-take}
 use borrow.Author.Tests.{le-leb, lt-leb, leb-true}
 use Rattle.format.specs.Records.{longest, placeFrom}
 use Rattle.blocks.specs.Control.{Op, opOf}
-use Rattle.blocks.specs.Lists.{size, nestedLists}
+use Rattle.blocks.specs.Lists.{nestedLists}
 use Rattle.blocks.specs.Nesting.{accepts}
-use Rattle.blocks.specs.Prepared.{kindFrom, opFrom, tableWords, hasRoom, filled, opIn, listIn, wordsIn, Located, Room}
+use Rattle.blocks.specs.Prepared.{opFrom, tableWords, hasRoom, filled, opIn, listIn, wordsIn, Located, Room}
 use Rattle.blocks.specs.Run.{mostInstructions}
-use Rattle.blocks.specs.Table.{Row, row, nowhere, rows, table, rowAt, rowWords, placeIn, rowIn, wordsOf}
+use Rattle.blocks.specs.Table.{Row, row, nowhere, table, rowAt, rowWords, placeIn, rowIn, wordsOf}
 use Rattle.blocks.proofs.Agree.{length-rows}
 use Rattle.blocks.proofs.Laid.{list-fits}
 use Rattle.blocks.proofs.Correct.{rows-count}

@@ -1,16 +1,15 @@
 -- What the readers of blocks find: the list at an instruction by what the instruction is, and where lists and blocks end.
 -- Assumes nothing.
 use mathlib.Core.Path.{_≡_, refl, sym, ap, _∙_}
-use mathlib.Core.Bool.{Bool, true, false, cond, false≢true}
+use mathlib.Core.Bool.{Bool, true, false, false≢true}
 use mathlib.Core.List.{List}
 use mathlib.Core.Logic.{⊎-elim}
 use Prim.Native.Nat.{ℕ, suc, _+_, _-_, _<_, _≤_}
 use native.Mathlib.Omega.{arith}
-use native.Mathlib.Nat.{add-zero}
 use native.Mathlib.Numerals.{add-one}
 use lib.ListN.{length, getD}
 use Rattle.blocks.specs.Control.{Op, PLAIN, ELSE, ENDIF, BGNLOOP, ENDLOOP, BRK, CONT, DEFAULT, ENDSWITCH, END, UIF, SWITCH, CASE, is, isLabel, opOf}
-use Rattle.blocks.specs.Lists.{Items, nil, one, uif, loop, switch, size, item, listAt}
+use Rattle.blocks.specs.Lists.{Items, nil, one, uif, loop, switch, size, item}
 use Rattle.blocks.specs.Nesting.{opens}
 use Rattle.blocks.specs.Prepared.{closes, blockOf, opIn, listIn, blockIn}
 use Rattle.blocks.specs.Table.{firstLabel}

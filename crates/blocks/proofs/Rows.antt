@@ -1,11 +1,10 @@
 -- The rows that the readers write one after the other are the rows of the list.
 -- Assumes nothing.
-use mathlib.Core.Path.{_≡_, refl, sym, ap, _∙_}
+use mathlib.Core.Path.{_≡_, refl, sym, _∙_}
 use mathlib.Core.Bool.{Bool, true, false, cond}
 use mathlib.Core.List.{List, [], _∷_, _++_, append-nil, append-assoc}
-use Prim.Native.Nat.{ℕ, suc, _+_, _-_, _*_, _<_, _≤_}
+use Prim.Native.Nat.{ℕ, suc, _+_, _*_, _<_, _≤_}
 use native.Mathlib.Omega.{arith}
-use native.Mathlib.Nat.{add-zero}
 use native.Mathlib.Numerals.{add-one}
 use lib.ListN.{length, getD}
 use lib.Seq.{sets, length-sets}
@@ -14,7 +13,7 @@ use Rattle.blocks.specs.Lists.{Items, nil, one, uif, loop, switch, size}
 use Rattle.blocks.specs.Nesting.{opens}
 use Rattle.blocks.specs.Prepared.{closes, blockOf, opIn, listIn, blockIn, wordsIn, singleIn, Room, Near, Opening}
 use Rattle.blocks.specs.Run.{mostInstructions}
-use Rattle.blocks.specs.Table.{Row, row, Targets, inUif, inLoop, inSwitch, jumpOf, firstLabel, rowOf, uifRow, loopRow, switchRow, rows, rowWords, wordsOf}
+use Rattle.blocks.specs.Table.{Targets, inUif, inLoop, inSwitch, jumpOf, firstLabel, rowOf, uifRow, loopRow, switchRow, rows, rowWords, wordsOf}
 use Rattle.blocks.proofs.Agree.{length-rows}
 use Rattle.blocks.proofs.Laid.{list-laid, laid-label}
 use Rattle.blocks.proofs.Ops.{uif-left, last-no-label}
