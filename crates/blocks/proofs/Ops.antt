@@ -123,18 +123,21 @@ no-jump t k a d e f =
     op-cases (λ o. 0 ≡ jumpOf o t) k (λ u. absurd (a u)) (λ u. refl) (λ u. refl) (λ u. absurd (d u)) (λ u. absurd (e u))
     (λ u. absurd (f u)) (λ u. refl) (λ u. refl) (λ u. refl) (λ u. refl) (λ u. refl) (λ u. refl) refl
 
--- A mark that ends its list is no label.
+-- What holds of each mark that ends a list.
+pub closing-cases : (P : Op → Type 0) (o : Op) → closes o ≡ true → P ELSE → P ENDIF → P ENDLOOP → P ENDSWITCH → P END → P o
+closing-cases P ELSE h a b c d e = a
+closing-cases P ENDIF h a b c d e = b
+closing-cases P ENDLOOP h a b c d e = c
+closing-cases P ENDSWITCH h a b c d e = d
+closing-cases P END h a b c d e = e
+closing-cases P PLAIN h a b c d e = absurd (false≢true h)
+closing-cases P BRK h a b c d e = absurd (false≢true h)
+closing-cases P CONT h a b c d e = absurd (false≢true h)
+closing-cases P CASE h a b c d e = absurd (false≢true h)
+closing-cases P DEFAULT h a b c d e = absurd (false≢true h)
+closing-cases P UIF h a b c d e = absurd (false≢true h)
+closing-cases P BGNLOOP h a b c d e = absurd (false≢true h)
+closing-cases P SWITCH h a b c d e = absurd (false≢true h)
+
 pub last-no-label : (o : Op) → closes o ≡ true → isLabel o ≡ false
-last-no-label ELSE h = refl
-last-no-label ENDIF h = refl
-last-no-label ENDLOOP h = refl
-last-no-label ENDSWITCH h = refl
-last-no-label END h = refl
-last-no-label PLAIN h = absurd (false≢true h)
-last-no-label BRK h = absurd (false≢true h)
-last-no-label CONT h = absurd (false≢true h)
-last-no-label CASE h = absurd (false≢true h)
-last-no-label DEFAULT h = absurd (false≢true h)
-last-no-label UIF h = absurd (false≢true h)
-last-no-label BGNLOOP h = absurd (false≢true h)
-last-no-label SWITCH h = absurd (false≢true h)
+last-no-label o h = closing-cases (λ o. isLabel o ≡ false) o h refl refl refl refl refl

@@ -14,25 +14,13 @@ use Rattle.blocks.specs.Nesting.{opens}
 use Rattle.blocks.specs.Prepared.{closes, blockOf, opIn, listIn, blockIn}
 use Rattle.blocks.specs.Table.{firstLabel}
 use Rattle.blocks.proofs.Laid.{cond-cases, list-item, list-end, list-fits}
-use Rattle.blocks.proofs.Ops.{uif-kind, loop-kind, switch-kind, else-kind, loop-or-switch, not-else, last-no-label}
+use Rattle.blocks.proofs.Ops.{uif-kind, loop-kind, switch-kind, else-kind, loop-or-switch, not-else, closing-cases, last-no-label}
 
 -- ---- By the instruction
 
 module _ (op : ℕ → Op) (from : ℕ → Items) (n : ℕ) where
   item-last : (o : Op) → closes o ≡ true → item op o from n ≡ one n nil
-  item-last ELSE h = refl
-  item-last ENDIF h = refl
-  item-last ENDLOOP h = refl
-  item-last ENDSWITCH h = refl
-  item-last END h = refl
-  item-last PLAIN h = absurd (false≢true h)
-  item-last BRK h = absurd (false≢true h)
-  item-last CONT h = absurd (false≢true h)
-  item-last CASE h = absurd (false≢true h)
-  item-last DEFAULT h = absurd (false≢true h)
-  item-last UIF h = absurd (false≢true h)
-  item-last BGNLOOP h = absurd (false≢true h)
-  item-last SWITCH h = absurd (false≢true h)
+  item-last o h = closing-cases (λ o. item op o from n ≡ one n nil) o h refl refl refl refl refl
 
   item-plain : (o : Op) → closes o ≡ false → opens o ≡ false → item op o from n ≡ one n (from (suc n))
   item-plain PLAIN h k = refl

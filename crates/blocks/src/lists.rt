@@ -1,8 +1,6 @@
 // The nested lists, by the kinds of a program's instructions: where lists and blocks end, and their labels.
 ghost use mathlib.Core.Path.{_≡_};
-ghost use mathlib.Core.Bool.{cond};
-ghost use Prim.Native.Nat.{_+_, _<_};
-ghost use lib.ListN.{length};
+ghost use Prim.Native.Nat.{_+_};
 ghost use Rattle.blocks.specs.Control.{isLabel, opOf};
 ghost use Rattle.blocks.specs.Lists.{size};
 ghost use Rattle.blocks.specs.Nesting.{opens};
@@ -129,17 +127,6 @@ pub fn next_label(kinds: &[u8], n: usize) -> usize
             }
             m += 1;
         }
-    }
-    0
-}
-
-// The label of instruction n, which opens no block: a label has the next one.
-pub fn label_of(kinds: &[u8], n: usize) -> usize
-    requires { ⌜ n < length (now kinds) ⌝ }
-    ensures { λ r. ⌜ r ≡ cond (isLabel (opIn (now (kinds .entry)) n)) (firstLabel (opIn (now (kinds .entry))) (listIn (now (kinds .entry)) (n + 1))) 0 ⌝ }
-{
-    if is_label(kinds[n]) {
-        return next_label(kinds, n + 1);
     }
     0
 }

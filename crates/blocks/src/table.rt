@@ -6,24 +6,27 @@ use crate::lists::CONT;
 use crate::lists::ELSE;
 use crate::lists::ENDLOOP;
 use crate::lists::SWITCH;
+use crate::lists::is_label;
 use crate::lists::is_last;
 use crate::lists::is_opening;
-use crate::lists::label_of;
 use crate::lists::next_label;
 use crate::lists::past;
 use crate::lists::past_block;
-use crate::places::locate;
+use format::fields::byte_at;
 use format::records::LONGEST;
+use format::records::size_at;
 ghost use mathlib.Core.Path.{_≡_};
+ghost use mathlib.Core.Bool.{cond};
 ghost use mathlib.Core.List.{_∷_, []};
 ghost use Prim.Native.Nat.{_+_, _*_, _<_, _≤_};
 ghost use lib.ListN.{length};
 ghost use lib.Seq.{sets};
-ghost use Rattle.blocks.specs.Control.{opOf};
+ghost use Rattle.blocks.specs.Control.{isLabel, opOf};
 ghost use Rattle.blocks.specs.Lists.{size};
-ghost use Rattle.blocks.specs.Prepared.{listIn, blockIn, wordsIn, singleIn, Room, Near, Opening, filled};
+ghost use Rattle.blocks.specs.Prepared.{opIn, listIn, blockIn, wordsIn, singleIn, Located, Room, Near, Opening, filled};
 ghost use Rattle.blocks.specs.Run.{mostInstructions};
-ghost use Rattle.blocks.specs.Table.{jumpOf, rowWords};
+ghost use Rattle.blocks.specs.Table.{jumpOf, firstLabel, rowWords};
+ghost use Rattle.format.specs.Records.{longest, next};
 
 // Words of a row: byte place, jump, label.
 pub const ROW_WORDS: usize = 3;
@@ -71,6 +74,17 @@ fn put_row(work: &mut [u32], n: usize, place: u32, jump: usize, label: usize)
     work[at] = place;
     work[at + 1] = jump as u32;
     work[at + 2] = label as u32;
+}
+
+// The label of instruction n, which opens no block: a label has the next one.
+fn label_of(kinds: &[u8], n: usize) -> usize
+    requires { ⌜ n < length (now kinds) ⌝ }
+    ensures { λ r. ⌜ r ≡ cond (isLabel (opIn (now (kinds .entry)) n)) (firstLabel (opIn (now (kinds .entry))) (listIn (now (kinds .entry)) (n + 1))) 0 ⌝ }
+{
+    if is_label(kinds[n]) {
+        return next_label(kinds, n + 1);
+    }
+    0
 }
 
 // Writes the row of instruction n, which opens no block.
@@ -143,6 +157,41 @@ fn opening(kinds: &[u8], places: &[u32], work: &mut [u32], n: usize, targets: Ta
         block(kinds, places, work, second, inside);
     }
     end
+}
+
+// The place that the walk reaches from a place after one record.
+fn next_place(file: &[u8], at: usize) -> usize
+    requires { ⌜ (at ≤ length (now file)) × (length (now file) ≤ longest) ⌝ }
+    ensures { λ r. ⌜ r ≡ next (now (file .entry)) at ⌝ }
+{
+    let size = size_at(file, at);
+    if size == 0 {
+        return file.len();
+    }
+    at + size
+}
+
+// The kinds and byte places of a program's instructions, from the front of each array.
+struct Instructions {
+    kinds: [u8; 1024],
+    places: [u32; 1024],
+}
+
+fn locate(file: &[u8], start: usize, count: usize) -> Instructions
+    requires { ⌜ (start ≤ length (now file)) × (length (now file) ≤ longest) × (count ≤ mostInstructions) ⌝ }
+    ensures { λ r. ⌜ Located (now (file .entry)) start count (r .kinds) (r .places) ⌝ }
+{
+    let mut kinds = [0u8; 1024];
+    let mut places = [0u32; 1024];
+    let mut at = start;
+    let mut n: usize = 0;
+    while n < count {
+        kinds[n] = byte_at(file, at);
+        places[n] = at as u32;
+        at = next_place(file, at);
+        n += 1;
+    }
+    Instructions { kinds, places }
 }
 
 // Fills the table of a checked program: `count` instructions, the first at the byte place `start` of the file. Words past

@@ -2,8 +2,8 @@
 -- Assumes nothing.
 use borrow.Author.Needs.{needs}
 use Rattle.blocks.proofs.Rows.{chosen, not-chosen}
-use Rattle.blocks.proofs.lists.label_of.Statement.{statement}
-use Rattle.blocks.proofs.lists.label_of.Tie as tie
+use Rattle.blocks.proofs.table.label_of.Statement.{statement}
+use Rattle.blocks.proofs.table.label_of.Tie as tie
 
 pub label-of-spec : {M : Type 1} → statement M
 label-of-spec =

@@ -6,8 +6,8 @@ use borrow.Author.Needs.{needs}
 use Rattle.format.specs.Records.{placeFrom}
 use Rattle.blocks.specs.Prepared.{Located}
 use Rattle.blocks.proofs.Located.{located-none, located-all, place-start, place-within, place-narrow, place-next, located-more}
-use Rattle.blocks.proofs.places.locate.Statement.{statement}
-use Rattle.blocks.proofs.places.locate.Tie as tie
+use Rattle.blocks.proofs.table.locate.Statement.{statement}
+use Rattle.blocks.proofs.table.locate.Tie as tie
 
 abbrev Inv-loop : tie.InvT-loop
 Inv-loop file start count kinds₀ places₀ at₀ n₀ kinds places at n =

@@ -3,8 +3,8 @@
 use borrow.Author.Needs.{needs}
 use Rattle.format.proofs.Walk.{walk-fits}
 use Rattle.blocks.proofs.Located.{next-none, next-record}
-use Rattle.blocks.proofs.places.next_place.Statement.{statement}
-use Rattle.blocks.proofs.places.next_place.Tie as tie
+use Rattle.blocks.proofs.table.next_place.Statement.{statement}
+use Rattle.blocks.proofs.table.next_place.Tie as tie
 
 pub next-place-spec : {M : Type 1} → statement M
 next-place-spec =
