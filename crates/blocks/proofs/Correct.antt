@@ -10,7 +10,7 @@ use lib.ListN.{length}
 use Rattle.blocks.specs.declared.Next.{Next}
 use Rattle.blocks.specs.declared.Next.the-variants.{At, Ended}
 use Rattle.blocks.specs.Control.{Op, Machine, opAt}
-use Rattle.blocks.specs.Lists.{size, nestedLists}
+use Rattle.blocks.specs.Lists.{nestedLists}
 use Rattle.blocks.specs.Nesting.{accepts}
 use Rattle.blocks.specs.Reading.{Reading, out, brk, cont, ended, halted, read, rounds, reading}
 use Rattle.blocks.specs.Run.{mostInstructions, follow, step, run}

@@ -4,13 +4,16 @@ use mathlib.Core.Path.{_≡_, refl}
 use Prim.Native.Nat.{ℕ, _-_}
 use mathlib.Core.Bool.{true, false}
 use mathlib.Core.List.{List, [], _∷_}
-use lib.ListN.{getD}
-use Rattle.blocks.specs.Control.{Machine, opOf, opAt}
-use Rattle.blocks.specs.Lists.{Items, nil, one, uif, loop, switch, listFrom, nestedLists}
-use Rattle.blocks.specs.Nesting.{accepts}
-use Rattle.blocks.specs.Reading.{Reading, ended, halted, read, rounds, reading}
+use lib.ListN.{getD, replicate}
+use Rattle.format.specs.Kinds.{lengthOf}
+use Rattle.format.specs.Records.{sizeAt, next, placeFrom}
+use Rattle.blocks.specs.Control.{DEFAULT, UIF, CASE, Machine, opOf, opAt}
+use Rattle.blocks.specs.Lists.{nil, one, loop, switch, listFrom, nestedLists}
+use Rattle.blocks.specs.Nesting.{openLoop, openSwitch, refused, rule, accepts}
+use Rattle.blocks.specs.Prepared.{tableWords}
+use Rattle.blocks.specs.Reading.{ended, halted, read, rounds, reading}
 use Rattle.blocks.specs.Run.{walk, run}
-use Rattle.blocks.specs.Table.{row, rowAt, firstLabel, rows, table}
+use Rattle.blocks.specs.Table.{row, rowAt, firstLabel, rows, table, wordsOf}
 
 -- A machine over one number: PLAIN takes one off, UIF and SWITCH look at the number, the words of the CASEs are listed.
 abbrev countdown : List ℕ → List ℕ → Machine ℕ
@@ -68,10 +71,25 @@ mixed-run : run mixed (rowAt (table (opAt mixed) (nestedLists (opAt mixed) 16)))
 unfolding run table rows walk firstLabel listFrom opOf
 mixed-run = refl
 
--- A SWITCH with no CASE of the word and no DEFAULT, and a CASE after DEFAULT: 11 at the CASE.
-abbrev early : Machine ℕ
-early = countdown (0x91 ∷ 0x87 ∷ 0x20 ∷ 0x92 ∷ 0x20 ∷ 0x88 ∷ 0x89 ∷ []) (0 ∷ 0 ∷ 0 ∷ 5 ∷ [])
+-- Case 12: MOV and END of the 34 bytes, whose instructions begin at place 23.
+abbrev case12 : List ℕ
+case12 =
+    0x01 ∷ 0x03 ∷ 0 ∷ 0 ∷ 0 ∷ 0 ∷ 0x02 ∷ 0x19 ∷ 0 ∷ 0 ∷ 0 ∷ 0 ∷ 0 ∷ 0 ∷ 0 ∷ 0 ∷ 0 ∷ 0 ∷ 0 ∷ 0 ∷ 0 ∷ 0 ∷ 0
+    ∷ 0x10 ∷ 0x03 ∷ 0 ∷ 0 ∷ 0x01 ∷ 0x06 ∷ 0 ∷ 0 ∷ 0xE4 ∷ 0 ∷ 0x89 ∷ []
 
-early-refused : accepts (opAt early) (early .value) 7 0 [] ≡ false
-unfolding accepts opOf
-early-refused = refl
+case12-table : tableWords case12 23 2 ≡ 23 ∷ 0 ∷ 0 ∷ 33 ∷ 0 ∷ 0 ∷ []
+unfolding tableWords wordsOf table rows listFrom opOf placeFrom next sizeAt lengthOf
+case12-table = refl
+
+-- A label after DEFAULT and a second DEFAULT are refused with 11; an instruction right after SWITCH too, even as a 17th block.
+after-default : rule CASE 5 (openSwitch (7 ∷ []) true ∷ []) ≡ refused 11
+after-default = refl
+
+second-default : rule DEFAULT 0 (openSwitch (7 ∷ []) true ∷ []) ≡ refused 11
+second-default = refl
+
+after-switch : rule UIF 0 (openSwitch [] false ∷ replicate 15 openLoop) ≡ refused 11
+after-switch = refl
+
+seventeenth : rule UIF 0 (replicate 16 openLoop) ≡ refused 12
+seventeenth = refl

@@ -1,8 +1,14 @@
 pub mod Agree
 pub mod Correct
 pub mod Examples
-pub mod Lists
+pub mod Fill
+pub mod Laid
+pub mod Located
 pub mod Nested
+pub mod Ops
 pub mod Parse
+pub mod Readers
+pub mod Rows
+pub mod Same
 pub mod Sim
 pub mod Words

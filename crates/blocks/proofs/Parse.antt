@@ -6,15 +6,15 @@ use Prim.Native.Nat.{ℕ, zero, suc, _+_, _<_}
 use native.Mathlib.Omega.{arith}
 use native.Mathlib.Nat.{add-zero}
 use native.Mathlib.Numerals.{add-one}
-use mathlib.Core.Bool.{Bool, true, false, cond, not, _&&_, _||_, false≢true}
+use mathlib.Core.Bool.{Bool, true, false, cond, not, _&&_, false≢true}
 use mathlib.Core.List.{List, [], _∷_}
 use mathlib.Core.Logic.{_⊎_, inl, inr}
 use lib.Dec.{eqb, eqb→eq, eqb·suc-zero, leb}
 use lib.ListN.{length}
 use Rattle.blocks.specs.Control.{Op, PLAIN, ELSE, ENDIF, BGNLOOP, ENDLOOP, BRK, CONT, DEFAULT, ENDSWITCH, END, UIF, SWITCH, CASE, is}
-use Rattle.blocks.specs.Lists.{Items, nil, one, uif, loop, switch, size, item, listAt, nestedLists}
-use Rattle.blocks.specs.Nesting.{Open, openUif, openElse, openLoop, openSwitch, isSwitch, innermost, breakable, continuable, nestingRule, switchRule, mostOpen, opens, openAfter, Ruling, goes, refused, rule, passes, accepts}
-use Rattle.blocks.proofs.Lists.{list-item}
+use Rattle.blocks.specs.Lists.{Items, nil, one, size, item, listAt, nestedLists}
+use Rattle.blocks.specs.Nesting.{Open, openUif, openElse, openLoop, openSwitch, isSwitch, innermost, breakable, continuable, nestingRule, switchRule, mostOpen, opens, openAfter, goes, refused, passes, accepts}
+use Rattle.blocks.proofs.Laid.{list-item}
 use Rattle.blocks.proofs.Nested.{Close, atElse, atEndif, atEndloop, atEndswitch, atEnd, closing, Context, program, Fine, hasDefault, WF, w-one, w-close, w-uif, w-uif1, w-loop, w-switch, last-closes}
 
 -- What an instruction that passes has shown.

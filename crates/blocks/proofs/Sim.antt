@@ -8,12 +8,12 @@ use native.Mathlib.Nat.{sub-zero}
 use mathlib.Core.Bool.{Bool, true, false, cond, _||_, false≢true}
 use mathlib.Core.Logic.{_≢_}
 use mathlib.Core.Option.{Option, none, some}
-use lib.Dec.{eqb, eqb→eq, eqb·suc-zero}
+use lib.Dec.{eqb, eqb→eq}
 use borrow.Author.Tests.{eq-eqb, ne-eqb}
 use Rattle.blocks.specs.Control.{Op, PLAIN, ELSE, ENDIF, BGNLOOP, ENDLOOP, BRK, CONT, DEFAULT, ENDSWITCH, END, UIF, SWITCH, CASE, is, Machine, opAt, caseOf, defaultAt}
 use Rattle.blocks.specs.Lists.{Items, nil, one, uif, loop, switch, size}
 use Rattle.blocks.specs.Reading.{Reading, out, brk, cont, ended, halted, next, leave, round, charged, single, read, past, rounds}
-use Rattle.blocks.specs.Run.{mostInstructions, follow, walk, comesNext, step, run}
+use Rattle.blocks.specs.Run.{mostInstructions, follow, walk, comesNext, run}
 use Rattle.blocks.specs.Table.{Row, Targets, inUif, inLoop, inSwitch, firstLabel, rowOf, uifRow, switchRow}
 use Rattle.blocks.proofs.Agree.{Holds}
 use Rattle.blocks.proofs.Nested.{Close, atElse, atEndif, atEndloop, atEndswitch, atEnd, closing, Context, partOf, loopBody, switchBody, program, Fine, hasDefault, WF, w-one, w-close, w-uif, w-uif1, w-loop, w-switch}

@@ -43,6 +43,10 @@ opOf k =
 abbrev pub is : Op → Op → Bool
 is o p = eqb (kindOf o) (kindOf p)
 
+-- The labels of a SWITCH.
+abbrev pub isLabel : Op → Bool
+isLabel o = is CASE o || is DEFAULT o
+
 -- A program over states S. Of instruction n: its kind byte, its effect where it is PLAIN, the x that a UIF or a SWITCH
 -- looks at, and the word of a CASE.
 pub record Machine (S : Type 0) : Type 0 where
@@ -53,11 +57,6 @@ pub record Machine (S : Type 0) : Type 0 where
 
 abbrev pub opAt : {S : Type 0} → Machine S → ℕ → Op
 opAt M n = opOf (M .kind n)
-
-module _ (op : ℕ → Op) where
-  -- Whether instruction n is a CASE or DEFAULT.
-  abbrev pub labelAt : ℕ → Bool
-  labelAt n = is CASE (op n) || is DEFAULT (op n)
 
 module _ {S : Type 0} (M : Machine S) where
   -- Whether instruction n is a CASE of the word x, and whether it is DEFAULT.

@@ -4,7 +4,8 @@ use Prim.Native.Nat.{ℕ, suc, _+_, _*_}
 use mathlib.Core.Bool.{cond}
 use mathlib.Core.List.{List, [], _∷_, _++_}
 use lib.ListN.{getD}
-use Rattle.blocks.specs.Control.{Op, PLAIN, ELSE, ENDIF, BGNLOOP, ENDLOOP, BRK, CONT, DEFAULT, ENDSWITCH, END, UIF, SWITCH, CASE, labelAt}
+use Rattle.blocks.specs.Control.{Op, PLAIN, ELSE, ENDIF, BGNLOOP, ENDLOOP, BRK, CONT, DEFAULT, ENDSWITCH, END, UIF, SWITCH, CASE, isLabel}
+pub use Rattle.blocks.specs.declared.table.Targets.{Targets}
 use Rattle.blocks.specs.Lists.{Items, nil, one, uif, loop, switch, size}
 
 -- The words of an instruction's row that steer, as instruction numbers.
@@ -17,12 +18,7 @@ row jump label = record { jump = jump; label = label }
 
 -- Where an instruction of a list goes: BRK; CONT and, in a loop's own list, ENDLOOP; ELSE.
 -- "BRK goes after the end of the innermost enclosing loop or SWITCH." "ENDLOOP and CONT go after BGNLOOP, CONT that of the
--- innermost enclosing loop." "ELSE, reached from above, goes after ENDIF." (01, Blocks)
-pub record Targets : Type 0 where
-  pub brk : ℕ
-  pub cont : ℕ
-  pub after : ℕ
-
+-- innermost enclosing loop." "ELSE, reached from above, goes after ENDIF." (01, Blocks) Nowhere in the outermost list.
 abbrev pub nowhere : Targets
 nowhere = record { brk = 0; cont = 0; after = 0 }
 
@@ -36,11 +32,26 @@ inLoop n l = record { brk = suc n + size l; cont = suc n; after = 0 }
 abbrev pub inSwitch : ℕ → Items → Targets → Targets
 inSwitch n l t = record { brk = suc n + size l; cont = t .cont; after = 0 }
 
+abbrev pub jumpOf : Op → Targets → ℕ
+jumpOf ELSE t = t .after
+jumpOf ENDLOOP t = t .cont
+jumpOf CONT t = t .cont
+jumpOf BRK t = t .brk
+jumpOf CASE t = 0
+jumpOf DEFAULT t = 0
+jumpOf PLAIN t = 0
+jumpOf ENDIF t = 0
+jumpOf BGNLOOP t = 0
+jumpOf ENDSWITCH t = 0
+jumpOf END t = 0
+jumpOf UIF t = 0
+jumpOf SWITCH t = 0
+
 module _ (op : ℕ → Op) where
   -- The number of a list's first own label, 0 for none.
   unfoldable pub firstLabel : Items → ℕ
   firstLabel nil = 0
-  firstLabel (one n rest) = cond (labelAt op n) n (firstLabel rest)
+  firstLabel (one n rest) = cond (isLabel (op n)) n (firstLabel rest)
   firstLabel (uif n p q rest) = firstLabel rest
   firstLabel (loop n l rest) = firstLabel rest
   firstLabel (switch n l rest) = firstLabel rest
@@ -49,19 +60,7 @@ module _ (op : ℕ → Op) where
   -- SWITCH its first label; CASE and DEFAULT the next label of their SWITCH, 0 for none. All else 0." (01, Blocks)
   -- Of an instruction that opens no block, before the list `rest`:
   abbrev pub rowOf : Op → Targets → Items → Row
-  rowOf ELSE t rest = row (t .after) 0
-  rowOf ENDLOOP t rest = row (t .cont) 0
-  rowOf CONT t rest = row (t .cont) 0
-  rowOf BRK t rest = row (t .brk) 0
-  rowOf CASE t rest = row 0 (firstLabel rest)
-  rowOf DEFAULT t rest = row 0 (firstLabel rest)
-  rowOf PLAIN t rest = row 0 0
-  rowOf ENDIF t rest = row 0 0
-  rowOf BGNLOOP t rest = row 0 0
-  rowOf ENDSWITCH t rest = row 0 0
-  rowOf END t rest = row 0 0
-  rowOf UIF t rest = row 0 0
-  rowOf SWITCH t rest = row 0 0
+  rowOf o t rest = row (jumpOf o t) (cond (isLabel o) (firstLabel rest) 0)
 
   -- Of a UIF, a loop and a SWITCH at n. "UIF with x = 0 goes after its ELSE, or after ENDIF if none": past its first part,
   -- of which ELSE or ENDIF is the last.
