@@ -7,6 +7,7 @@ mod check;
 mod compare;
 mod control;
 mod damage;
+mod example;
 mod fields;
 mod format;
 mod generate;
@@ -36,6 +37,7 @@ const HELP: &str = "\
 compare [COUNT [SEED]]  compare the library with the second interpreter on COUNT cases (200000)
 replay SEED NUMBER      show one case of a comparison, and compare it
 vectors                 run the recorded instructions and programs
+example                 run ../examples/measure.bin on the texts of its README, also with the old fault
 bench                   measure steps, check and prepare
 help                    print this";
 
@@ -129,6 +131,7 @@ fn main() -> ExitCode {
         ["compare", count, seed] => compare(number(count), number(seed)),
         ["replay", seed, case] => replay(number(seed), number(case)),
         ["vectors"] => vectors(),
+        ["example"] => example::example(product()),
         ["bench"] => bench::bench(product(), &Second::new(), &plain::Plain),
         ["help"] => {
             println!("{HELP}");

@@ -67,11 +67,22 @@ pub enum Stop {
     Halt(usize),
 }
 
+/// What BRK in a SWITCH leaves.
+#[derive(Clone, Copy, PartialEq, Debug)]
+pub enum SwitchBrk {
+    /// The paper's rule: the SWITCH.
+    Switch,
+    /// The old fault, put in on purpose: the innermost loop around the SWITCH too, if there is one.
+    LoopToo,
+}
+
 pub struct Reading<'a> {
     pub program: &'a Program,
     pub machine: Machine<'a>,
     pub budget: u32,
     pub count: u32,
+    pub switch_brk: SwitchBrk,
+    pub open_loops: usize,
     /// How often each kind was carried out.
     pub carried_out: &'a mut [u64; 256],
 }
@@ -103,7 +114,12 @@ impl Reading<'_> {
                 // "A UIF hands BRK and CONT to the list around it"
                 self.read(if x == 0 { second } else { first })
             }
-            Item::Loop { list, .. } => self.read_loop(list),
+            Item::Loop { list, .. } => {
+                self.open_loops += 1;
+                let stop = self.read_loop(list);
+                self.open_loops -= 1;
+                stop
+            }
             Item::Switch { list, .. } => self.read_switch(instruction, list),
         }
     }
@@ -138,6 +154,7 @@ impl Reading<'_> {
         let default = list.iter().position(|item| self.label(item) == Some(None));
         let Some(label) = equal.or(default) else { return Stop::RanOut };
         match self.read(&list[label + 1..]) {
+            Stop::Brk if self.switch_brk == SwitchBrk::LoopToo && self.open_loops > 0 => Stop::Brk,
             Stop::Brk => Stop::RanOut,
             stop => stop,
         }

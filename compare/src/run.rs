@@ -3,7 +3,7 @@
 use crate::check::{check, Program, Refusal};
 use crate::format::{self, Part, CONST, IN};
 use crate::machine::{Machine, REGISTER_WORDS};
-use crate::reading::{nest, Reading, Stop};
+use crate::reading::{nest, Reading, Stop, SwitchBrk};
 use crate::runner::{Answer, Lent, Runner};
 use crate::table::rows;
 use std::cell::RefCell;
@@ -13,11 +13,17 @@ pub const MOST_MEMORY: usize = 16_384;
 /// The second interpreter. It counts the instructions it carries out, by kind.
 pub struct Second {
     pub carried_out: RefCell<[u64; 256]>,
+    switch_brk: SwitchBrk,
 }
 
 impl Second {
     pub fn new() -> Second {
-        Second { carried_out: RefCell::new([0; 256]) }
+        Second { carried_out: RefCell::new([0; 256]), switch_brk: SwitchBrk::Switch }
+    }
+
+    /// With the old fault in its block reading; its check and table are the paper's.
+    pub fn with_old_fault() -> Second {
+        Second { switch_brk: SwitchBrk::LoopToo, ..Second::new() }
     }
 }
 
@@ -44,7 +50,10 @@ fn lent_refusal(program: &Program, lent: &Lent) -> Option<Answer> {
 
 impl Runner for Second {
     fn name(&self) -> &'static str {
-        "second interpreter"
+        match self.switch_brk {
+            SwitchBrk::Switch => "second interpreter",
+            SwitchBrk::LoopToo => "with the old fault",
+        }
     }
 
     fn check(&self, file: &[u8]) -> Answer {
@@ -80,7 +89,9 @@ impl Runner for Second {
         lent.work[..3 * table.len()].copy_from_slice(table.as_flattened());
         let machine = Machine::new(&program, lent.inputs, lent.constants, lent.memory);
         let carried_out = &mut *self.carried_out.borrow_mut();
-        let mut reading = Reading { program: &program, machine, budget, count: 0, carried_out };
+        let switch_brk = self.switch_brk;
+        let mut reading =
+            Reading { program: &program, machine, budget, count: 0, switch_brk, open_loops: 0, carried_out };
         let stop = reading.read(&list);
         reading.machine.lay_out(lent.registers);
         match stop {

@@ -2,6 +2,7 @@
 
 mod blocks;
 mod driver;
+mod example;
 mod refusals;
 mod run_refusals;
 mod small_cases;
@@ -22,11 +23,15 @@ pub struct Left {
 
 /// Runs a file with enough of everything lent.
 pub fn run(file: &[u8], memory: &[u32], budget: u32) -> Left {
+    run_by(&Second::new(), file, memory, budget)
+}
+
+pub fn run_by(runner: &dyn Runner, file: &[u8], memory: &[u32], budget: u32) -> Left {
     let (mut registers, mut work) = (vec![9; REGISTER_WORDS + 1], vec![9; 3 * 1024 + 1]);
     let mut memory = memory.to_vec();
     let (inputs, constants) = (&[0; 128], &[0; 4096]);
     let lent = Lent { inputs, constants, registers: &mut registers, work: &mut work, memory: &mut memory };
-    let answer = Second::new().run(file, lent, budget);
+    let answer = runner.run(file, lent, budget);
     Left { answer, registers, work, memory }
 }
 
