@@ -12,3 +12,4 @@ pub mod Rows
 pub mod Same
 pub mod Sim
 pub mod Words
+pub mod Inside

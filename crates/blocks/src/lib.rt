@@ -5,6 +5,6 @@ pub mod table;
 
 // What comes after a step: an instruction, by its number, or the end of the program.
 pub enum Next {
-    At(u32),
+    At(usize),
     Ended,
 }

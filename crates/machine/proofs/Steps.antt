@@ -1,0 +1,172 @@
+-- A step: each arm of the match is the step of the table's row, by the control instruction that the kind is.
+-- Assumes nothing.
+use mathlib.Core.Path.{_≡_, _∙_, refl, sym, ap}
+use mathlib.Core.Bool.{Bool, true, false, cond, not, _&&_}
+use mathlib.Core.List.{List, []}
+use mathlib.Core.Logic.{⊎-elim}
+use Prim.Native.Nat.{ℕ, suc, _+_, _*_, _-_, _<_, _≤_}
+use native.Mathlib.Omega.{arith}
+use native.Mathlib.Nat.{add-zero, eq-or-lt-of-le}
+use native.Mathlib.Numerals.{add-one}
+use borrow.Author.Tests.{ne-eqb}
+use lib.Dec.{T, eqb, eqb→eq}
+use lib.ListN.{drop, drop-of-length-le, getD, length, length-drop, take}
+use lib.Seq.{getD-drop, take-all}
+use Rattle.format.specs.Kinds.{within}
+use Rattle.format.specs.Fields.{destinationAt, sourceAt}
+use Rattle.format.specs.declared.fields.Destination.{Destination}
+use Rattle.blocks.specs.declared.Next.{Next}
+use Rattle.blocks.specs.declared.Next.the-variants.{At, Ended}
+use Rattle.blocks.specs.Control.{Machine, Op, PLAIN, ELSE, ENDIF, BGNLOOP, ENDLOOP, BRK, CONT, DEFAULT, ENDSWITCH, END, UIF, SWITCH, CASE, is, opOf}
+use Rattle.blocks.specs.Table.{Row, placeIn, rowIn}
+use Rattle.blocks.specs.Run.{Step, comesNext, mostInstructions, step, walk}
+use Rattle.blocks.proofs.Ops.{op-cases}
+use Rattle.machine.specs.declared.operands.Operands.{Operands}
+use Rattle.machine.specs.Operands.{Env, State, sourceOf}
+use Rattle.machine.specs.Effect.{NONE, effect, effectOf, familyOf, operandsOf, recordEffect, state}
+use Rattle.machine.specs.Step.{labelsOf, machineOf, stepped, testOf}
+use Rattle.machine.proofs.Effects.{kindIn, same-family}
+use Rattle.machine.proofs.Families.{and-left, and-right, every, in-range}
+use Rattle.machine.proofs.Walks.{walk-labels}
+
+-- ---- bytes and the test
+
+pub rest-of : (l : List ℕ) (n : ℕ) → take (length l - n) (drop n l) ≡ drop n l
+rest-of l n = take-all (length l - n) (drop n l) (omega (arith, length-drop n l))
+
+pub past-rest : (l : List ℕ) (n : ℕ) → length l ≤ n → [] ≡ drop n l
+past-rest l n h = sym (drop-of-length-le l h)
+
+pub test-is : (e : Env) (r bytes v : List ℕ) → v ≡ sourceOf e r (sourceAt bytes 1) → getD v 0 0 ≡ testOf e r bytes
+unfolding testOf
+test-is e r bytes v h = rw h
+
+-- ---- the step
+
+-- kinds without effect that do not jump
+abbrev quiet : ℕ → Bool
+quiet k = eqb (kindIn (familyOf k)) (kindIn NONE) && not (within 0x84 0x86 k)
+
+module _ (e : Env) (file rows : List ℕ) (n : ℕ) (r m : List ℕ) where
+  abbrev machine : Machine State
+  machine = machineOf e file (placeIn rows)
+
+  abbrev here : Step State
+  here = step machine (rowIn rows) n (state r m)
+
+  module _ (p k : ℕ) (bytes : List ℕ) (ep : p ≡ placeIn rows n) (eb : bytes ≡ drop p file) (ek : k ≡ getD bytes 0 0) where
+    -- the step, were the kind that of the control instruction o
+    abbrev stepAs : Op → Step State
+    stepAs o =
+        record {
+          next = comesNext machine (rowIn rows) o (testOf e r bytes) n;
+          state = cond (is PLAIN o) (recordEffect e bytes (state r m)) (state r m);
+        }
+
+    kind-is : k ≡ machine .kind n
+    kind-is = ek ∙ rw (eb, ep) (getD-drop (placeIn rows n) file 0 0 ∙ rw (add-zero (placeIn rows n)))
+
+    by-op : (o : Op) → opOf k ≡ o → stepAs o ≡ here
+    by-op o h =
+        let at-place : bytes ≡ drop (placeIn rows n) file = eb ∙ ap (λ (i : ℕ). drop i file) ep in
+        ap stepAs (sym h) ∙ rw (← kind-is, ← at-place)
+
+    -- ---- control instructions, which leave the state
+
+    control : (o : Op) (q : ℕ) → opOf q ≡ o → is PLAIN o ≡ false → (next : Next) → k ≡ q → next ≡ comesNext machine (rowIn rows) o (testOf e r bytes) n
+        → stepped next r m ≡ here
+    control o q h stays next i g =
+        let same : stepped next r m ≡ stepAs o = rw (stays, g) in
+        same ∙ by-op o (ap opOf i ∙ h)
+
+    pub end-step : k ≡ 0x89 → stepped Ended r m ≡ here
+    unfolding opOf
+    end-step h = control END 0x89 refl refl Ended h refl
+
+    module _ (j : ℕ) (ej : j ≡ rowIn rows n .jump) where
+      pub else-step : k ≡ 0x81 → stepped (At j) r m ≡ here
+      unfolding opOf
+      else-step h = control ELSE 0x81 refl refl (At j) h (ap At ej)
+
+      pub jump-step : 0x84 ≤ k → k < 0x87 → stepped (At j) r m ≡ here
+      unfolding opOf
+      jump-step a b =
+          ⊎-elim (λ h. control ENDLOOP 0x84 refl refl (At j) (sym h) (ap At ej))
+          (λ a. ⊎-elim (λ h. control BRK 0x85 refl refl (At j) (sym h) (ap At ej))
+          (λ a. control CONT 0x86 refl refl (At j) (omega arith) (ap At ej))
+          (eq-or-lt-of-le a))
+          (eq-or-lt-of-le a)
+
+    module _ (x : ℕ) (ex : x ≡ testOf e r bytes) where
+      pub uif-false : (j : ℕ) → k ≡ 0x90 → x ≡ 0 → j ≡ rowIn rows n .jump → stepped (At j) r m ≡ here
+      unfolding opOf
+      uif-false j h z ej = control UIF 0x90 refl refl (At j) h (rw (← ex, z, ej))
+
+      pub uif-true : k ≡ 0x90 → (x ≡ 0 → ⊥) → stepped (At (n + 1)) r m ≡ here
+      unfolding opOf
+      uif-true h z = control UIF 0x90 refl refl (At (n + 1)) h (rw (← ex, ne-eqb x 0 z, add-one n))
+
+      pub switch-step : (l j w : ℕ) → k ≡ 0x91 → l ≡ rowIn rows n .label → j ≡ rowIn rows n .jump
+          → w ≡ walk (labelsOf (e .immediates) file (placeIn rows)) (rowIn rows) mostInstructions x l j → stepped (At w) r m ≡ here
+      unfolding opOf
+      switch-step l j w h el ej ew =
+          control SWITCH 0x91 refl refl (At w) h
+          (ap At (ew ∙ (walk-labels e file (placeIn rows) (rowIn rows) mostInstructions x l j ∙ rw (ex, el, ej))))
+
+    -- ---- other kinds
+
+    next-is : At (n + 1) ≡ At (suc n)
+    next-is = ap At (add-one n)
+
+    plain-kind : k < 0x71 → opOf k ≡ PLAIN
+    plain-kind b =
+        op-cases (λ p. p ≡ PLAIN) k
+        (λ h. absurd (omega arith)) (λ h. absurd (omega arith)) (λ h. absurd (omega arith)) (λ h. absurd (omega arith))
+        (λ h. absurd (omega arith)) (λ h. absurd (omega arith)) (λ h. absurd (omega arith)) (λ h. absurd (omega arith))
+        (λ h. absurd (omega arith)) (λ h. absurd (omega arith)) (λ h. absurd (omega arith)) (λ h. absurd (omega arith))
+        refl
+
+    pub data-step : (d : Destination) (o : Operands) (q l : List ℕ) → k < 0x71 → d ≡ destinationAt bytes 1 → o ≡ operandsOf e r bytes
+        → state q l ≡ effectOf (familyOf k) k d o (state r m) → stepped (At (n + 1)) q l ≡ here
+    unfolding recordEffect
+    data-step d o q l b ed eo et =
+        let same : state q l ≡ recordEffect e bytes (state r m) = rw (← ek, ← ed, ← eo) et in
+        let whole : stepped (At (n + 1)) q l ≡ stepAs PLAIN = cc next-is in
+        whole ∙ by-op PLAIN (plain-kind b)
+
+    falls : (lo hi : ℕ) → T (every quiet lo (hi - lo)) → lo ≤ k → k < hi → (k ≡ 0x81 → ⊥) → (k ≡ 0x89 → ⊥) → (k ≡ 0x90 → ⊥) → (k ≡ 0x91 → ⊥)
+        → stepped (At (n + 1)) r m ≡ here
+    unfolding recordEffect
+    falls lo hi q a b w x y z = each ∙ by-op (opOf k) refl
+      where
+        is-quiet : T (quiet k)
+        is-quiet = in-range quiet lo hi k q a b
+
+        no-effect : state r m ≡ recordEffect e bytes (state r m)
+        no-effect = rw (← ek, same-family (familyOf k) NONE (and-left (eqb (kindIn (familyOf k)) (kindIn NONE)) (not (within 0x84 0x86 k)) is-quiet))
+
+        no-jump : T (not (within 0x84 0x86 k))
+        no-jump = and-right (eqb (kindIn (familyOf k)) (kindIn NONE)) (not (within 0x84 0x86 k)) is-quiet
+
+        on : stepped (At (n + 1)) r m ≡ stepped (At (suc n)) r m
+        on = cc next-is
+
+        each : stepped (At (n + 1)) r m ≡ stepAs (opOf k)
+        each =
+            op-cases (λ o. stepped (At (n + 1)) r m ≡ stepAs o) k
+            (λ h. absurd (w h)) (λ h. on) (λ h. on) (λ h. absurd (rw h at no-jump)) (λ h. absurd (rw h at no-jump)) (λ h. absurd (rw h at no-jump))
+            (λ h. on) (λ h. on) (λ h. absurd (x h)) (λ h. absurd (y h)) (λ h. absurd (z h)) (λ h. on)
+            (cc (on, no-effect))
+
+    module _ (w : k ≡ 0x81 → ⊥) (x : k ≡ 0x89 → ⊥) (y : k ≡ 0x90 → ⊥) (z : k ≡ 0x91 → ⊥) where
+      pub falls-below : k < 0x10 → stepped (At (n + 1)) r m ≡ here
+      unfolding familyOf
+      falls-below b = falls 0 0x10 tt (omega arith) b w x y z
+
+      pub falls-between : 0x71 ≤ k → k < 0x84 → stepped (At (n + 1)) r m ≡ here
+      unfolding familyOf
+      falls-between a b = falls 0x71 0x84 tt a b w x y z
+
+      pub falls-above : 0x87 ≤ k → k < 0x100 → stepped (At (n + 1)) r m ≡ here
+      unfolding familyOf
+      falls-above a b = falls 0x87 0x100 tt a b w x y z

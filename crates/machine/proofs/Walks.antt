@@ -1,0 +1,98 @@
+-- The walk along the labels of a SWITCH: what is left of it comes to the same instruction as the whole.
+-- Assumes nothing.
+use mathlib.Core.Path.{_≡_, _∙_, refl, sym}
+use mathlib.Core.Bool.{Bool, true, false, cond}
+use mathlib.Core.List.{List}
+use Prim.Native.Nat.{ℕ, zero, suc, _-_, _+_, _<_, _≤_}
+use native.Mathlib.Omega.{arith}
+use native.Mathlib.Numerals.{add-one}
+use borrow.Author.Tests.{eq-eqb, ne-eqb}
+use lib.Dec.{eqb}
+use lib.ListN.{getD}
+use Rattle.format.specs.Fields.{caseWord}
+use Rattle.blocks.specs.Control.{Machine, Op, CASE, DEFAULT, caseOf, defaultAt, is, opOf}
+use Rattle.blocks.specs.Table.{Row, placeIn}
+use Rattle.blocks.specs.Run.{walk}
+use Rattle.blocks.proofs.Ops.{op-cases}
+use Rattle.machine.specs.Operands.{Env, State}
+use Rattle.machine.specs.Step.{env, labelsOf, machineOf}
+
+-- ---- one label
+
+not-case : (k : ℕ) → (k ≡ 0x92 → ⊥) → is CASE (opOf k) ≡ false
+not-case k d =
+    op-cases (λ o. is CASE o ≡ false) k
+    (λ h. refl) (λ h. refl) (λ h. refl) (λ h. refl) (λ h. refl) (λ h. refl) (λ h. refl) (λ h. refl) (λ h. refl) (λ h. refl) (λ h. refl)
+    (λ h. absurd (d h))
+    refl
+
+not-default : (k : ℕ) → (k ≡ 0x87 → ⊥) → is DEFAULT (opOf k) ≡ false
+not-default k d =
+    op-cases (λ o. is DEFAULT o ≡ false) k
+    (λ h. refl) (λ h. refl) (λ h. refl) (λ h. refl) (λ h. refl) (λ h. refl)
+    (λ h. absurd (d h))
+    (λ h. refl) (λ h. refl) (λ h. refl) (λ h. refl) (λ h. refl)
+    refl
+
+module _ (immediates file rows : List ℕ) (m : ℕ) where
+  module _ (p b : ℕ) (ep : p ≡ placeIn rows m) (eb : b ≡ getD file p 0) where
+    module _ (x w : ℕ) (case : b ≡ 0x92) (ew : w ≡ caseWord immediates file p) where
+      pub case-found : w ≡ x → m + 1 ≡ cond (caseOf (labelsOf immediates file (placeIn rows)) x m) (suc m) 0
+      unfolding opOf
+      case-found h = rw (← ep, ← eb, case, ← ew, eq-eqb w x h) (add-one m)
+
+      pub case-differs : (w ≡ x → ⊥) → 0 ≡ cond (caseOf (labelsOf immediates file (placeIn rows)) x m) (suc m) 0
+      unfolding opOf
+      case-differs h = rw (← ep, ← eb, case, ← ew, ne-eqb w x h)
+
+    pub case-none : (x : ℕ) → (b ≡ 0x92 → ⊥) → 0 ≡ cond (caseOf (labelsOf immediates file (placeIn rows)) x m) (suc m) 0
+    case-none x h = rw (← ep, ← eb, not-case b h)
+
+    pub default-found : (other : ℕ) → b ≡ 0x87 → m + 1 ≡ cond (defaultAt (labelsOf immediates file (placeIn rows)) m) (suc m) other
+    unfolding opOf
+    default-found other h = rw (← ep, ← eb, h) (add-one m)
+
+    pub default-none : (other : ℕ) → (b ≡ 0x87 → ⊥) → other ≡ cond (defaultAt (labelsOf immediates file (placeIn rows)) m) (suc m) other
+    default-none other h = rw (← ep, ← eb, not-default b h)
+
+-- ---- the walk
+
+module _ (M : Machine State) (T : ℕ → Row) (x : ℕ) where
+  pub walk-spent : (f m other w : ℕ) → f ≤ 0 → walk M T f x m other ≡ w → other ≡ w
+  unfolding walk
+  walk-spent zero m other w h e = e
+  walk-spent (suc f) m other w h e = absurd (omega arith)
+
+  pub walk-ended : (f m other w : ℕ) → m ≡ 0 → walk M T f x m other ≡ w → other ≡ w
+  unfolding walk
+  walk-ended zero m other w h e = e
+  walk-ended (suc f) m other w h e = rw h at e
+
+  pub walk-found : (f m other w found : ℕ) → 0 < f → (m ≡ 0 → ⊥) → found ≡ cond (caseOf M x m) (suc m) 0 → (found ≡ 0 → ⊥) → walk M T f x m other ≡ w → found ≡ w
+  unfolding walk
+  walk-found zero m other w found h d ef n e = absurd (omega arith)
+  walk-found (suc f) m other w found h d ef n e = on (caseOf M x m) refl
+    where
+      on : (v : Bool) → caseOf M x m ≡ v → found ≡ w
+      on true k = ef ∙ (rw k (rw (ne-eqb m 0 d, k) at e))
+      on false k = absurd (n (ef ∙ rw k))
+
+  pub walk-on : (f m other w found o n : ℕ) → 0 < f → (m ≡ 0 → ⊥) → found ≡ cond (caseOf M x m) (suc m) 0 → found ≡ 0
+      → o ≡ cond (defaultAt M m) (suc m) other → n ≡ T m .label → walk M T f x m other ≡ w → walk M T (f - 1) x n o ≡ w
+  unfolding walk
+  walk-on zero m other w found o n h d ef z eo en e = absurd (omega arith)
+  walk-on (suc f) m other w found o n h d ef z eo en e = on (caseOf M x m) refl
+    where
+      one-less : suc f - 1 ≡ f
+      one-less = omega arith
+
+      on : (v : Bool) → caseOf M x m ≡ v → walk M T (suc f - 1) x n o ≡ w
+      on true k = let y : suc m ≡ 0 = rw k at (sym ef ∙ z) in absurd (omega arith)
+      on false k = rw (one-less, eo, en) (rw (ne-eqb m 0 d, k) at e)
+
+-- only the immediates are looked at
+pub walk-labels : (e : Env) (file : List ℕ) (place : ℕ → ℕ) (T : ℕ → Row) (f x m other : ℕ)
+    → walk (labelsOf (e .immediates) file place) T f x m other ≡ walk (machineOf e file place) T f x m other
+unfolding walk
+walk-labels e file place T zero x m other = refl
+walk-labels e file place T (suc f) x m other = simp (walk-labels e file place T f)

@@ -1,0 +1,81 @@
+-- Results written to the components of a mask, in registers and in memory.
+-- Assumes nothing.
+use mathlib.Core.Path.{_≡_, refl, sym}
+use mathlib.Core.Bool.{Bool, true, false}
+use mathlib.Core.List.{List, [], _∷_}
+use Prim.Native.Nat.{ℕ, _+_, _*_, _/_, _%_, _<_, _≤_}
+use native.Mathlib.Nat.{add-zero}
+use borrow.Author.Tests.{eq-eqb, ne-eqb}
+use lib.Dec.{eqb}
+use lib.ListN.{getD, length, set}
+use lib.Seq.{set-out}
+use Rattle.words.specs.Word.{bit}
+use Rattle.format.specs.declared.fields.Destination.{Destination}
+use Rattle.machine.specs.Operands.{components, firstWord, ifMasked, masked, written}
+use Rattle.machine.specs.Memory.{loaded, loadedFrom, stored, storedFrom}
+
+pub set-past : (l : List ℕ) (i w : ℕ) → length l ≤ i → l ≡ set l i w
+set-past l i w h = sym (set-out l i w h)
+
+module _ (mask i : ℕ) (put : ℕ → List ℕ → List ℕ) (l : List ℕ) (t : Bool) (e : t ≡ eqb (bit mask i) 1) where
+  pub masked-on : (m : List ℕ) → t ≡ true → m ≡ put i l → m ≡ ifMasked mask i put l
+  unfolding ifMasked
+  masked-on m h k = rw (← e, h) k
+
+  pub masked-off : t ≡ false → l ≡ ifMasked mask i put l
+  unfolding ifMasked
+  masked-off h = rw (← e, h)
+
+module _ (d : Destination) where
+  pub first-out : d .file ≡ 3 → 4 * d .index ≡ firstWord d
+  unfolding firstWord
+  first-out h = rw h
+
+  pub first-temp : d .file ≡ 4 → 128 + 4 * d .index ≡ firstWord d
+  unfolding firstWord
+  first-temp h = rw h
+
+  pub first-addr : (d .file ≡ 3 → ⊥) → (d .file ≡ 4 → ⊥) → 1152 ≡ firstWord d
+  unfolding firstWord
+  first-addr a b = simp (ne-eqb (d .file) 3 a, ne-eqb (d .file) 4 b)
+
+pub written-is : (d : Destination) (first : ℕ) (v l x y z w : List ℕ) → first ≡ firstWord d
+    → x ≡ ifMasked (d .mask) 0 (λ i l. set l (first + i) (getD v 0 0)) l
+    → y ≡ ifMasked (d .mask) 1 (λ i l. set l (first + i) (getD v 1 0)) x
+    → z ≡ ifMasked (d .mask) 2 (λ i l. set l (first + i) (getD v 2 0)) y
+    → w ≡ ifMasked (d .mask) 3 (λ i l. set l (first + i) (getD v 3 0)) z
+    → w ≡ written l d v
+unfolding written masked ifMasked
+written-is d first v l x y z w ef ex ey ez ew = cc
+
+-- ---- memory
+
+module _ (m : List ℕ) (a : ℕ) where
+  pub loaded-aligned : (w : ℕ) → a % 4 ≡ 0 → w ≡ getD m (a / 4) 0 → w ≡ loaded m a
+  unfolding loaded
+  loaded-aligned w h e = rw h e
+
+  pub loaded-misaligned : (a % 4 ≡ 0 → ⊥) → 0 ≡ loaded m a
+  unfolding loaded
+  loaded-misaligned h = simp (ne-eqb (a % 4) 0 h)
+
+  pub stored-aligned : (l : List ℕ) (w : ℕ) → a % 4 ≡ 0 → l ≡ set m (a / 4) w → l ≡ stored m a w
+  unfolding stored
+  stored-aligned l w h e = rw h e
+
+  pub stored-misaligned : (w : ℕ) → (a % 4 ≡ 0 → ⊥) → m ≡ stored m a w
+  unfolding stored
+  stored-misaligned w h = simp (ne-eqb (a % 4) 0 h)
+
+  pub loaded-from : (x y z w : ℕ) → x ≡ loaded m a → y ≡ loaded m (a + 4) → z ≡ loaded m (a + 8) → w ≡ loaded m (a + 12) → x ∷ y ∷ z ∷ w ∷ [] ≡ loadedFrom m a
+  unfolding loadedFrom components
+  loaded-from x y z w ex ey ez ew = cc (add-zero a)
+
+  pub stored-from : (mask : ℕ) (v x y z w : List ℕ)
+      → x ≡ ifMasked mask 0 (λ i l. stored l (a + 4 * i) (getD v 0 0)) m
+      → y ≡ ifMasked mask 1 (λ i l. stored l (a + 4 * i) (getD v 1 0)) x
+      → z ≡ ifMasked mask 2 (λ i l. stored l (a + 4 * i) (getD v 2 0)) y
+      → w ≡ ifMasked mask 3 (λ i l. stored l (a + 4 * i) (getD v 3 0)) z
+      → w ≡ storedFrom m a mask v
+  unfolding storedFrom masked ifMasked
+  stored-from mask v x y z w ex ey ez ew = cc

@@ -1,0 +1,29 @@
+-- The walk along the labels. The loop's invariant: the walk from here, with what is left of it, comes to where the whole comes.
+use mathlib.Core.Path.{_≡_}
+use borrow.Author.Needs.{needs}
+use Rattle.blocks.specs.Run.{mostInstructions, walk}
+use Rattle.blocks.specs.Table.{placeIn, rowIn}
+use Rattle.machine.specs.Step.{labelsOf}
+use Rattle.machine.proofs.Walks.{walk-ended, walk-found, walk-on, walk-spent}
+use Rattle.machine.proofs.labels.after_label.Statement.{statement}
+use Rattle.machine.proofs.labels.after_label.Tie as tie
+
+abbrev Inv-loop : tie.InvT-loop
+Inv-loop file rows immediates x label jump m₀ other₀ left₀ m other left =
+    walk (labelsOf immediates file (placeIn rows)) (rowIn rows) left x m other
+    ≡ walk (labelsOf immediates file (placeIn rows)) (rowIn rows) mostInstructions x label jump
+
+abbrev μ-loop : tie.MeasureT-loop
+μ-loop file rows immediates x label jump m₀ other₀ left₀ m other left = left
+
+pub after-label-spec : {M : Type 1} → statement M
+after-label-spec =
+    tie.close
+    (tie.spec Inv-loop μ-loop
+    (search needs)
+    (λ c. search (needs, walk-ended))
+    (search needs)
+    (λ c. search (needs, walk-found))
+    (search needs) (search needs) (search needs) (search needs)
+    (λ c. search (needs, walk-on))
+    (λ c. search (needs, walk-spent)))

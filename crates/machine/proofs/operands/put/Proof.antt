@@ -1,0 +1,14 @@
+-- One component of a result: past the end `set` leaves the words.
+use Rattle.machine.proofs.Writes.{masked-off, masked-on, set-past}
+use borrow.Author.Needs.{needs}
+use Rattle.machine.proofs.operands.put.Statement.{statement}
+use Rattle.machine.proofs.operands.put.Tie as tie
+
+pub put-spec : {M : Type 1} → statement M
+put-spec =
+    tie.close
+    (tie.spec
+    (search needs) (search needs) (search needs) (search needs) (search needs)
+    (λ c. search (needs, masked-on))
+    (λ c. search (needs, masked-on, set-past))
+    (λ c. search (needs, masked-off)))

@@ -1,0 +1,26 @@
+-- Each arm is the step of a control instruction, of a data instruction, or of a kind that only counts.
+-- Assumes nothing.
+use Rattle.machine.proofs.Steps.{data-step, else-step, end-step, falls-above, falls-below, falls-between, jump-step, switch-step, uif-false, uif-true}
+use borrow.Author.Needs.{needs}
+use Rattle.machine.proofs.step.step.Statement.{statement}
+use Rattle.machine.proofs.step.step.Tie as tie
+
+pub step-spec : {M : Type 1} → statement M
+step-spec =
+    tie.close
+    (tie.spec
+    (search needs) (search needs) (search needs) (search needs) (search needs) (search needs) (search needs) (search needs) (search needs) (search needs) (search needs) (search needs) (search needs) (search needs) (search needs) (search needs) (search needs) (search needs) (search needs) (search needs)
+    (λ c. search (needs, else-step))
+    (λ c. search (needs, end-step))
+    (search needs)
+    (λ c. search (needs, uif-false))
+    (search needs)
+    (λ c. search (needs, uif-true))
+    (search needs)
+    (λ c. search (needs, switch-step))
+    (search needs) (search needs)
+    (λ c. search (needs, data-step))
+    (λ c. search (needs, jump-step))
+    (λ c. search (needs, falls-below))
+    (λ c. search (needs, falls-between))
+    (λ c. search (needs, falls-above)))

@@ -1,0 +1,5 @@
+pub mod Operands
+pub mod Memory
+pub mod Arithmetic
+pub mod Effect
+pub mod Step

@@ -1,0 +1,171 @@
+// Results on words, component by component. Each family is a match over its kinds, in document 01's order.
+use words::bits::and32;
+use words::bits::brev32;
+use words::bits::imsb32;
+use words::bits::lsb32;
+use words::bits::not32;
+use words::bits::or32;
+use words::bits::popc32;
+use words::bits::umsb32;
+use words::bits::xor32;
+use words::division::sdiv32;
+use words::division::srem32;
+use words::division::udiv32;
+use words::division::urem32;
+use words::fields::bfi32;
+use words::fields::ibfe32;
+use words::fields::ubfe32;
+use words::order::flag32;
+use words::order::slt32;
+use words::order::smax32;
+use words::order::smin32;
+use words::order::ucmp32;
+use words::order::umax32;
+use words::order::umin32;
+use words::shifts::ishr32;
+use words::shifts::shl32;
+use words::shifts::ushr32;
+use words::sums::add32;
+use words::sums::iabs32;
+use words::sums::imulhi32;
+use words::sums::mul32;
+use words::sums::neg32;
+use words::sums::ssg32;
+use words::sums::umad32;
+use words::sums::umulhi32;
+ghost use mathlib.Core.Path.{_≡_};
+ghost use Prim.Native.Nat.{_<_, _≤_};
+ghost use Rattle.machine.specs.Arithmetic.{unary, binary, ternary, atomic, unaryOf, binaryOf, ternaryOf, bfiOf};
+
+fn unary_word(kind: u8, a: u32) -> u32
+    requires { ⌜ (0x10 ≤ kind) × (kind < 0x1B) ⌝ }
+    ensures { λ r. ⌜ r ≡ unary kind a ⌝ }
+{
+    match kind {
+        0x10 => a,
+        0x11 => not32(a),
+        0x12 => neg32(a),
+        0x13 => iabs32(a),
+        0x14 => ssg32(a),
+        0x15 => brev32(a),
+        0x16 => popc32(a),
+        0x17 => lsb32(a),
+        0x18 => imsb32(a),
+        0x19 => umsb32(a),
+        0x1a => a,
+        _ => 0,
+    }
+}
+
+pub fn unary_words(kind: u8, a: [u32; 4]) -> [u32; 4]
+    requires { ⌜ (0x10 ≤ kind) × (kind < 0x1B) ⌝ }
+    ensures { λ r. ⌜ r ≡ unaryOf kind a ⌝ }
+{
+    [
+        unary_word(kind, a[0]),
+        unary_word(kind, a[1]),
+        unary_word(kind, a[2]),
+        unary_word(kind, a[3]),
+    ]
+}
+
+fn binary_word(kind: u8, a: u32, b: u32) -> u32
+    requires { ⌜ (0x20 ≤ kind) × (kind < 0x38) ⌝ }
+    ensures { λ r. ⌜ r ≡ binary kind a b ⌝ }
+{
+    match kind {
+        0x20 => add32(a, b),
+        0x21 => mul32(a, b),
+        0x22 => imulhi32(a, b),
+        0x23 => umulhi32(a, b),
+        0x24 => sdiv32(a, b),
+        0x25 => udiv32(a, b),
+        0x26 => srem32(a, b),
+        0x27 => urem32(a, b),
+        0x28 => and32(a, b),
+        0x29 => or32(a, b),
+        0x2a => xor32(a, b),
+        0x2b => smin32(a, b),
+        0x2c => smax32(a, b),
+        0x2d => umin32(a, b),
+        0x2e => umax32(a, b),
+        0x2f => shl32(a, b),
+        0x30 => ishr32(a, b),
+        0x31 => ushr32(a, b),
+        0x32 => flag32(slt32(a, b)),
+        0x33 => flag32(a < b),
+        0x34 => flag32(!slt32(a, b)),
+        0x35 => flag32(b <= a),
+        0x36 => flag32(a == b),
+        0x37 => flag32(a != b),
+        _ => 0,
+    }
+}
+
+pub fn binary_words(kind: u8, a: [u32; 4], b: [u32; 4]) -> [u32; 4]
+    requires { ⌜ (0x20 ≤ kind) × (kind < 0x38) ⌝ }
+    ensures { λ r. ⌜ r ≡ binaryOf kind a b ⌝ }
+{
+    [
+        binary_word(kind, a[0], b[0]),
+        binary_word(kind, a[1], b[1]),
+        binary_word(kind, a[2], b[2]),
+        binary_word(kind, a[3], b[3]),
+    ]
+}
+
+fn ternary_word(kind: u8, a: u32, b: u32, c: u32) -> u32
+    requires { ⌜ (0x60 ≤ kind) × (kind < 0x64) ⌝ }
+    ensures { λ r. ⌜ r ≡ ternary kind a b c ⌝ }
+{
+    match kind {
+        0x60 => umad32(a, b, c),
+        0x61 => ucmp32(a, b, c),
+        0x62 => ibfe32(a, b, c),
+        0x63 => ubfe32(a, b, c),
+        _ => 0,
+    }
+}
+
+pub fn ternary_words(kind: u8, a: [u32; 4], b: [u32; 4], c: [u32; 4]) -> [u32; 4]
+    requires { ⌜ (0x60 ≤ kind) × (kind < 0x64) ⌝ }
+    ensures { λ r. ⌜ r ≡ ternaryOf kind a b c ⌝ }
+{
+    [
+        ternary_word(kind, a[0], b[0], c[0]),
+        ternary_word(kind, a[1], b[1], c[1]),
+        ternary_word(kind, a[2], b[2], c[2]),
+        ternary_word(kind, a[3], b[3], c[3]),
+    ]
+}
+
+pub fn bfi_words(base: [u32; 4], insert: [u32; 4], offset: [u32; 4], bits: [u32; 4]) -> [u32; 4]
+    ensures { λ r. ⌜ r ≡ bfiOf base insert offset bits ⌝ }
+{
+    [
+        bfi32(base[0], insert[0], offset[0], bits[0]),
+        bfi32(base[1], insert[1], offset[1], bits[1]),
+        bfi32(base[2], insert[2], offset[2], bits[2]),
+        bfi32(base[3], insert[3], offset[3], bits[3]),
+    ]
+}
+
+// What an atomic stores, by the old word and src1.x.
+pub fn atomic_word(kind: u8, old: u32, b: u32) -> u32
+    requires { ⌜ (0x56 ≤ kind) × (kind < 0x60) ⌝ }
+    ensures { λ r. ⌜ r ≡ atomic kind old b ⌝ }
+{
+    match kind {
+        0x56 => smin32(old, b),
+        0x57 => smax32(old, b),
+        0x58 => old,
+        0x59 => add32(old, b),
+        0x5a => b,
+        0x5b => and32(old, b),
+        0x5c => or32(old, b),
+        0x5d => xor32(old, b),
+        0x5e => umin32(old, b),
+        0x5f => umax32(old, b),
+        _ => 0,
+    }
+}

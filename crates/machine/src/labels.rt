@@ -1,0 +1,89 @@
+// Where a SWITCH goes: the walk along its labels, which looks at all CASEs before it takes DEFAULT.
+use crate::operands::word_at;
+use format::fields::byte_at;
+use format::fields::case_word;
+ghost use mathlib.Core.Path.{_≡_};
+ghost use mathlib.Core.Bool.{cond};
+ghost use mathlib.Core.List.{[]};
+ghost use Prim.Native.Nat.{suc};
+ghost use Rattle.blocks.specs.Control.{caseOf, defaultAt};
+ghost use Rattle.blocks.specs.Table.{placeIn, rowIn};
+ghost use Rattle.blocks.specs.Run.{walk, mostInstructions};
+ghost use Rattle.machine.specs.Step.{labelsOf};
+
+// Words of a row: byte place, jump, label.
+pub const ROW_WORDS: usize = 3;
+
+// No program has more instructions.
+pub const MOST_INSTRUCTIONS: u32 = 1024;
+
+// The words of row n, 0 outside the rows.
+pub fn place_of(rows: &[u32], n: u32) -> u32
+    ensures { λ r. ⌜ r ≡ placeIn (now (rows .entry)) n ⌝ }
+{
+    word_at(rows, ROW_WORDS * n as usize)
+}
+
+pub fn jump_of(rows: &[u32], n: u32) -> u32
+    ensures { λ r. ⌜ r ≡ rowIn (now (rows .entry)) n .jump ⌝ }
+{
+    word_at(rows, ROW_WORDS * n as usize + 1)
+}
+
+pub fn label_of(rows: &[u32], n: u32) -> u32
+    ensures { λ r. ⌜ r ≡ rowIn (now (rows .entry)) n .label ⌝ }
+{
+    word_at(rows, ROW_WORDS * n as usize + 2)
+}
+
+// The instruction after m where that is the CASE of x, else 0.
+fn after_case(file: &[u8], rows: &[u32], immediates: &[u32], x: u32, m: u32) -> usize
+    ensures { λ r. ⌜ r ≡ cond (caseOf (labelsOf (now (immediates .entry)) (now (file .entry)) (placeIn (now (rows .entry)))) x m) (suc m) 0 ⌝ }
+{
+    let place = place_of(rows, m) as usize;
+    if byte_at(file, place) == 0x92 {
+        if case_word(immediates, file, place) == x {
+            return m as usize + 1;
+        }
+    }
+    0
+}
+
+// The instruction after m where that is DEFAULT, else the other.
+fn after_default(file: &[u8], rows: &[u32], m: u32, other: usize) -> usize
+    ensures { λ r. ⌜ r ≡ cond (defaultAt (labelsOf [] (now (file .entry)) (placeIn (now (rows .entry)))) m) (suc m) other ⌝ }
+{
+    if byte_at(file, place_of(rows, m) as usize) == 0x87 {
+        return m as usize + 1;
+    }
+    other
+}
+
+// The instruction that a SWITCH on x goes to: its first label and the instruction after its ENDSWITCH are given.
+pub fn after_label(
+    file: &[u8],
+    rows: &[u32],
+    immediates: &[u32],
+    x: u32,
+    label: u32,
+    jump: usize,
+) -> usize
+    ensures { λ r. ⌜ r ≡ walk (labelsOf (now (immediates .entry)) (now (file .entry)) (placeIn (now (rows .entry)))) (rowIn (now (rows .entry))) mostInstructions x label jump ⌝ }
+{
+    let mut m = label;
+    let mut other = jump;
+    let mut left = MOST_INSTRUCTIONS;
+    while 0 < left {
+        if m == 0 {
+            return other;
+        }
+        let found = after_case(file, rows, immediates, x, m);
+        if found != 0 {
+            return found;
+        }
+        other = after_default(file, rows, m, other);
+        m = label_of(rows, m);
+        left -= 1;
+    }
+    other
+}

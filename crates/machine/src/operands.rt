@@ -1,0 +1,281 @@
+// Operands: sources read and results written by register number, over lent words.
+use format::fields::Destination;
+use format::fields::Source;
+use format::fields::byte_at;
+use format::fields::source_at;
+use words::sums::neg32;
+ghost use mathlib.Core.Path.{_≡_};
+ghost use mathlib.Core.Bool.{cond};
+ghost use Prim.Native.Nat.{_+_, _*_, _<_, _^_};
+ghost use lib.Dec.{eqb};
+ghost use lib.ListN.{getD, set};
+ghost use lib.IntN.{pos, _+ℤ_};
+ghost use Rattle.words.specs.Word.{bit, signed};
+ghost use Rattle.format.specs.Fields.{sourceAt};
+ghost use Rattle.machine.specs.Operands.{bitIn, declaredIn, ifDeclared, registerOf, selected, negated, taken, sourceOf, ifMasked, firstWord, written};
+ghost use Rattle.machine.specs.Effect.{operandsOf};
+ghost use Rattle.machine.specs.Step.{env};
+
+// The register that a source names, or none.
+pub enum Place {
+    Register(u32),
+    Nowhere,
+}
+
+// The components of the sources, in their order.
+pub struct Operands {
+    pub a: [u32; 4],
+    pub b: [u32; 4],
+    pub c: [u32; 4],
+    pub d: [u32; 4],
+}
+
+// A word of lent words, 0 past their end.
+pub fn word_at(words: &[u32], at: usize) -> u32
+    ensures { λ r. ⌜ r ≡ getD (now (words .entry)) at 0 ⌝ }
+{
+    if at < words.len() { words[at] } else { 0 }
+}
+
+fn bit_in(words: &[u32], i: u32) -> bool
+    ensures { λ r. ⌜ r ≡ bitIn (now (words .entry)) i ⌝ }
+{
+    (word_at(words, (i / 32) as usize) >> (i % 32)) % 2 == 1
+}
+
+// Whether a CONST or TEMP register is declared.
+fn is_declared(declared: &[u32], file: u8, n: u32) -> bool
+    ensures { λ r. ⌜ r ≡ declaredIn (now (declared .entry)) file n ⌝ }
+{
+    if file == 1 {
+        if n < 1024 {
+            return bit_in(declared, n);
+        }
+    } else if file == 4 {
+        if n < 256 {
+            return bit_in(declared, 1024 + n);
+        }
+    }
+    false
+}
+
+fn declared_place(declared: &[u32], file: u8, n: u32) -> Place
+    ensures { λ r. ⌜ r ≡ ifDeclared (declaredIn (now (declared .entry))) file (pos n) ⌝ }
+{
+    if is_declared(declared, file, n) {
+        Place::Register(n)
+    } else {
+        Place::Nowhere
+    }
+}
+
+// Index plus address as a signed number.
+fn indirect(declared: &[u32], file: u8, index: u16, address: u32) -> Place
+    ensures { λ r. ⌜ r ≡ ifDeclared (declaredIn (now (declared .entry))) file (pos index +ℤ signed 32 address) ⌝ }
+{
+    let i = index as u32;
+    if address < 0x8000_0000 {
+        return declared_place(declared, file, i + address);
+    }
+    let back = (u32::MAX - address) + 1;
+    if back <= i {
+        declared_place(declared, file, i - back)
+    } else {
+        Place::Nowhere
+    }
+}
+
+fn register_of(s: Source, declared: &[u32], registers: &[u32]) -> Place
+    ensures { λ r. ⌜ r ≡ registerOf (declaredIn (now (declared .entry))) (now (registers .entry)) s ⌝ }
+{
+    let component = s.modifier / 2;
+    if component == 0 {
+        Place::Register(s.index as u32)
+    } else {
+        let address = word_at(registers, 1151 + component as usize);
+        indirect(declared, s.file, s.index, address)
+    }
+}
+
+fn select(swizzle: u8, i: u8) -> u8
+    requires { ⌜ i < 4 ⌝ }
+    ensures { λ r. ⌜ r ≡ selected swizzle i ⌝ }
+{
+    (swizzle >> (2 * i)) % 4
+}
+
+// Component i of the register whose words begin at `first`.
+fn component(words: &[u32], s: Source, first: usize, i: u8) -> u32
+    requires { ⌜ (first < 2 ^ 40) × (i < 4) ⌝ }
+    ensures { λ r. ⌜ r ≡ negated (s .modifier) (getD (now (words .entry)) (first + selected (s .swizzle) i) 0) ⌝ }
+{
+    let w = word_at(words, first + select(s.swizzle, i) as usize);
+    if s.modifier % 2 == 1 { neg32(w) } else { w }
+}
+
+fn components(words: &[u32], s: Source, first: usize) -> [u32; 4]
+    requires { ⌜ first < 2 ^ 40 ⌝ }
+    ensures { λ r. ⌜ r ≡ taken (now (words .entry)) s first ⌝ }
+{
+    [
+        component(words, s, first, 0),
+        component(words, s, first, 1),
+        component(words, s, first, 2),
+        component(words, s, first, 3),
+    ]
+}
+
+// What a source reads, component by component.
+pub fn read(
+    s: Source,
+    inputs: &[u32],
+    constants: &[u32],
+    immediates: &[u32],
+    declared: &[u32],
+    registers: &[u32],
+) -> [u32; 4]
+    ensures { λ r. ⌜ r ≡ sourceOf (env (now (inputs .entry)) (now (constants .entry)) (now (immediates .entry)) (now (declared .entry))) (now (registers .entry)) s ⌝ }
+{
+    let place = register_of(s, declared, registers);
+    match place {
+        Place::Register(n) => {
+            let first = 4 * n as usize;
+            let file = s.file;
+            match file {
+                1 => components(constants, s, first),
+                2 => components(inputs, s, first),
+                4 => components(registers, s, 128 + first),
+                6 => components(immediates, s, first),
+                _ => [0, 0, 0, 0],
+            }
+        }
+        Place::Nowhere => [0, 0, 0, 0],
+    }
+}
+
+// What the source from byte `at` of a record on reads.
+pub fn read_at(
+    bytes: &[u8],
+    at: usize,
+    inputs: &[u32],
+    constants: &[u32],
+    immediates: &[u32],
+    declared: &[u32],
+    registers: &[u32],
+) -> [u32; 4]
+    ensures { λ r. ⌜ r ≡ sourceOf (env (now (inputs .entry)) (now (constants .entry)) (now (immediates .entry)) (now (declared .entry))) (now (registers .entry)) (sourceAt (now (bytes .entry)) at) ⌝ }
+{
+    read(
+        source_at(bytes, at),
+        inputs,
+        constants,
+        immediates,
+        declared,
+        registers,
+    )
+}
+
+// All sources of the instruction whose record these bytes begin with.
+pub fn read_operands(
+    bytes: &[u8],
+    inputs: &[u32],
+    constants: &[u32],
+    immediates: &[u32],
+    declared: &[u32],
+    registers: &[u32],
+) -> Operands
+    ensures { λ r. ⌜ r ≡ operandsOf (env (now (inputs .entry)) (now (constants .entry)) (now (immediates .entry)) (now (declared .entry))) (now (registers .entry)) (now (bytes .entry)) ⌝ }
+{
+    let kind = byte_at(bytes, 0);
+    let none = [0u32; 4];
+    let a = read_at(bytes, 5, inputs, constants, immediates, declared, registers);
+    if kind < 0x20 {
+        return Operands {
+            a,
+            b: none,
+            c: none,
+            d: none,
+        };
+    }
+    let b = read_at(
+        bytes,
+        10,
+        inputs,
+        constants,
+        immediates,
+        declared,
+        registers,
+    );
+    if kind < 0x60 {
+        return Operands {
+            a,
+            b,
+            c: none,
+            d: none,
+        };
+    }
+    let c = read_at(
+        bytes,
+        15,
+        inputs,
+        constants,
+        immediates,
+        declared,
+        registers,
+    );
+    if kind < 0x70 {
+        return Operands { a, b, c, d: none };
+    }
+    let d = read_at(
+        bytes,
+        20,
+        inputs,
+        constants,
+        immediates,
+        declared,
+        registers,
+    );
+    Operands { a, b, c, d }
+}
+
+// Whether a mask has component i.
+pub fn is_masked(mask: u8, i: u8) -> bool
+    requires { ⌜ i < 8 ⌝ }
+    ensures { λ r. ⌜ r ≡ eqb (bit mask i) 1 ⌝ }
+{
+    (mask >> i) % 2 == 1
+}
+
+fn put(registers: &mut [u32], mask: u8, i: u8, first: u32, word: u32)
+    requires { ⌜ i < 8 ⌝ }
+    ensures { λ r. ⌜ now (registers .exit) ≡ ifMasked mask i (λ i l. set l (first + i) word) (now (registers .entry)) ⌝ }
+{
+    if is_masked(mask, i) {
+        let at = first as usize + i as usize;
+        if at < registers.len() {
+            registers[at] = word;
+        }
+    }
+}
+
+fn first_word(d: Destination) -> u32
+    ensures { λ r. ⌜ r ≡ firstWord d ⌝ }
+{
+    let file = d.file;
+    match file {
+        3 => 4 * d.index as u32,
+        4 => 128 + 4 * d.index as u32,
+        _ => 1152,
+    }
+}
+
+// A result written to the components that the destination's mask has.
+pub fn write(registers: &mut [u32], d: Destination, v: [u32; 4])
+    ensures { λ r. ⌜ now (registers .exit) ≡ written (now (registers .entry)) d v ⌝ }
+{
+    let first = first_word(d);
+    put(registers, d.mask, 0, first, v[0]);
+    put(registers, d.mask, 1, first, v[1]);
+    put(registers, d.mask, 2, first, v[2]);
+    put(registers, d.mask, 3, first, v[3]);
+}

@@ -1,0 +1,91 @@
+// One step: the instruction's effect and what comes next, by a match on the kind with ranges.
+use crate::effect::effect;
+use crate::labels::after_label;
+use crate::labels::jump_of;
+use crate::labels::label_of;
+use crate::labels::place_of;
+use crate::operands::read_at;
+use crate::operands::read_operands;
+use blocks::Next;
+use format::fields::byte_at;
+use format::fields::destination_at;
+ghost use mathlib.Core.Path.{_≡_};
+ghost use lib.ListN.{drop};
+ghost use Rattle.blocks.specs.Table.{placeIn, rowIn};
+ghost use Rattle.blocks.specs.Run.{step as stepOf};
+ghost use Rattle.machine.specs.Effect.{state};
+ghost use Rattle.machine.specs.Step.{env, testOf, machineOf, stepped};
+
+// The bytes from a place on, none past the end.
+fn bytes_from(file: &[u8], at: usize) -> &[u8]
+    ensures { λ r. ⌜ now r ≡ drop at (now (file .entry)) ⌝ }
+{
+    if at < file.len() {
+        &file[at..]
+    } else {
+        &file[..0]
+    }
+}
+
+// The x that a UIF or SWITCH looks at.
+fn test(
+    bytes: &[u8],
+    inputs: &[u32],
+    constants: &[u32],
+    immediates: &[u32],
+    declared: &[u32],
+    registers: &[u32],
+) -> u32
+    ensures { λ r. ⌜ r ≡ testOf (env (now (inputs .entry)) (now (constants .entry)) (now (immediates .entry)) (now (declared .entry))) (now (registers .entry)) (now (bytes .entry)) ⌝ }
+{
+    let v = read_at(bytes, 1, inputs, constants, immediates, declared, registers);
+    v[0]
+}
+
+// Carries out instruction n of the prepared rows.
+pub fn step(
+    file: &[u8],
+    rows: &[u32],
+    n: u32,
+    inputs: &[u32],
+    constants: &[u32],
+    immediates: &[u32],
+    declared: &[u32],
+    registers: &mut [u32],
+    memory: &mut [u32],
+) -> Next
+    ensures { λ r. ⌜ stepped r (now (registers .exit)) (now (memory .exit)) ≡ stepOf (machineOf (env (now (inputs .entry)) (now (constants .entry)) (now (immediates .entry)) (now (declared .entry))) (now (file .entry)) (placeIn (now (rows .entry)))) (rowIn (now (rows .entry))) n (state (now (registers .entry)) (now (memory .entry))) ⌝ }
+{
+    let after = n as usize + 1;
+    let bytes = bytes_from(file, place_of(rows, n) as usize);
+    let kind = byte_at(bytes, 0);
+    match kind {
+        0x10..=0x70 => {
+            let operands = read_operands(bytes, inputs, constants, immediates, declared, registers);
+            effect(kind, destination_at(bytes, 1), operands, registers, memory);
+            Next::At(after)
+        }
+        0x81 => Next::At(jump_of(rows, n) as usize),
+        0x84..=0x86 => Next::At(jump_of(rows, n) as usize),
+        0x89 => Next::Ended,
+        0x90 => {
+            if test(bytes, inputs, constants, immediates, declared, registers) == 0 {
+                Next::At(jump_of(rows, n) as usize)
+            } else {
+                Next::At(after)
+            }
+        }
+        0x91 => {
+            let x = test(bytes, inputs, constants, immediates, declared, registers);
+            Next::At(after_label(
+                file,
+                rows,
+                immediates,
+                x,
+                label_of(rows, n),
+                jump_of(rows, n) as usize,
+            ))
+        }
+        _ => Next::At(after),
+    }
+}

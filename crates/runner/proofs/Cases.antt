@@ -1,0 +1,75 @@
+-- The thirteen small cases of document 01, as one list with a single statement about the definitions that the contracts cite.
+-- Assumes nothing.
+use mathlib.Core.Path.{_≡_, ap}
+use mathlib.Core.List.{List, [], _∷_, _++_}
+use Prim.Native.Nat.{ℕ}
+use lib.ListN.{getD, take, replicate}
+use Rattle.words.proofs.Cases as words
+use Rattle.format.specs.Kinds.{lengthOf}
+use Rattle.format.specs.Fields.{word16, word32, destinationAt, sourceAt, declarationAt, caseWord}
+use Rattle.format.specs.Records.{sizeAt, next, placeFrom}
+use Rattle.blocks.specs.Control.{opOf}
+use Rattle.blocks.specs.Lists.{listFrom}
+use Rattle.blocks.specs.Prepared.{tableWords}
+use Rattle.blocks.specs.Reading.{read, past, rounds, reading}
+use Rattle.blocks.specs.Table.{firstLabel, rows, table, wordsOf}
+use Rattle.checker.specs.Check.{walk, checkOf}
+use Rattle.checker.specs.Findings.{withDeclaration, declarationFinding, withImmediate, immediateFinding, sourceFound, operandsFound, withInstruction, instructionFinding, recordFinding}
+use Rattle.checker.specs.Rules.{destinationRule, sourceRule, allOperands, declarationRule}
+use Rattle.machine.specs.Operands.{components, fileWords, registerOf, taken, sourceOf, ifMasked, masked, firstWord, written}
+use Rattle.machine.specs.Arithmetic.{unary, unaryOf}
+use Rattle.machine.specs.Effect.{operandsOf, familyOf, recordEffect}
+use Rattle.machine.specs.Step.{testOf}
+use Rattle.runner.specs.Answers.{Answer, refusal, ready, end, halt, Result}
+use Rattle.runner.specs.Whole.{lentRefusal, cleared, carriedOut, runAccepted, runOf}
+
+-- `01 03 00 00 00 00`, `02 19` and fifteen `00`, `10 03 00 00 01 06 00 00 E4 00`, `89`
+file12 : List ℕ
+file12 =
+    0x01 ∷ 3 ∷ 0 ∷ 0 ∷ 0 ∷ 0 ∷ 0x02 ∷ 0x19 ∷ replicate 15 0 ++ (0x10 ∷ 3 ∷ 0 ∷ 0 ∷ 1 ∷ 6 ∷ 0 ∷ 0 ∷ 0xE4 ∷ 0 ∷ 0x89 ∷ [])
+
+-- BGNLOOP, SWITCH IMM0.x, CASE IMM0.x, BRK, ENDSWITCH, BRK, ENDLOOP, END
+file13 : List ℕ
+file13 =
+    0x02
+    ∷ replicate 16 0
+    ++ (0x83 ∷ 0x91 ∷ 6 ∷ 0 ∷ 0 ∷ 0 ∷ 0 ∷ 0x92 ∷ 6 ∷ 0 ∷ 0 ∷ 0 ∷ 0 ∷ 0x85 ∷ 0x88 ∷ 0x85 ∷ 0x84 ∷ 0x89 ∷ [])
+
+-- A run over 1,156 registers of 7, words enough for the table, and no memory.
+ran : List ℕ → ℕ → Result
+ran file budget = runOf file [] [] (replicate 1156 7) (replicate 24 9) [] budget
+
+-- An answer in numbers: which it is (0 ended, 1 halted, 2 refused, 3 prepared), and its values.
+numbers : Answer → List ℕ
+numbers (end steps) = 0 ∷ steps ∷ []
+numbers (halt steps next) = 1 ∷ steps ∷ next ∷ []
+numbers (refusal number place) = 2 ∷ number ∷ place ∷ []
+numbers (ready instructions) = 3 ∷ instructions ∷ []
+
+-- The answer, and then OUT[0].x and OUT[0].y.
+shown : Result → List ℕ
+shown r = numbers (r .answer) ++ take 2 (r .lent .registers)
+
+-- Cases 11 to 13: the empty file; the 34 bytes with their table and the budgets 2, 1 and 0; the BRK in a SWITCH in a loop.
+runs : List (List ℕ)
+runs =
+    numbers (ran [] 5 .answer)
+    ∷ take 9 (ran file12 2 .lent .work)
+    ∷ shown (ran file12 2)
+    ∷ shown (ran file12 1)
+    ∷ shown (ran file12 0)
+    ∷ shown (ran file13 100)
+    ∷ []
+
+-- All thirteen: the first ten, which are of words, and these.
+cases : (words.results ∷ runs)
+    ≡ words.expected
+    ∷ (2 ∷ 13 ∷ 0 ∷ [])
+    ∷ (23 ∷ 0 ∷ 0 ∷ 33 ∷ 0 ∷ 0 ∷ 9 ∷ 9 ∷ 9 ∷ [])
+    ∷ (0 ∷ 2 ∷ 25 ∷ 0 ∷ [])
+    ∷ (1 ∷ 1 ∷ 1 ∷ 25 ∷ 0 ∷ [])
+    ∷ (1 ∷ 0 ∷ 0 ∷ 0 ∷ 0 ∷ [])
+    ∷ (0 ∷ 5 ∷ 0 ∷ 0 ∷ [])
+    ∷ []
+unfolding file12 file13 ran numbers shown runs lengthOf word16 word32 destinationAt sourceAt declarationAt caseWord sizeAt next placeFrom opOf listFrom tableWords read past rounds reading firstLabel rows table wordsOf walk checkOf withDeclaration declarationFinding withImmediate immediateFinding sourceFound operandsFound withInstruction instructionFinding recordFinding destinationRule sourceRule allOperands declarationRule components fileWords registerOf taken sourceOf ifMasked masked firstWord written unary unaryOf operandsOf familyOf recordEffect testOf lentRefusal cleared carriedOut runAccepted runOf
+cases = ap (λ first. first ∷ runs) words.cases

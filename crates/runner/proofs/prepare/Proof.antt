@@ -1,0 +1,23 @@
+-- Preparing answers what its definition says, return by return.
+-- Assumes nothing.
+use borrow.Author.Needs.{needs}
+use Rattle.runner.proofs.Answering.{prepare-refused, prepare-short, prepare-ready}
+use Rattle.runner.proofs.prepare.Statement.{statement}
+use Rattle.runner.proofs.prepare.Tie as tie
+
+pub prepare-spec : {M : Type 1} → statement M
+prepare-spec =
+    tie.close
+    (tie.spec
+    (λ c κs. ?stub)
+    (search needs)
+    (search needs)
+    (search needs)
+    (search needs)
+    (λ c. search (needs, prepare-short))
+    (search needs)
+    (search needs)
+    (λ c κs. ?stub2)
+    (λ c. search (needs, prepare-refused))
+    (search needs)
+    (λ c. search (needs, prepare-ready)))
