@@ -1,0 +1,68 @@
+-- What the checker's own words stand for while it walks: the open blocks in arrays, and the state.
+-- Assumes nothing.
+use Prim.Native.Nat.{ℕ, zero, suc, _+_, _-_, _<_, _≤_}
+use mathlib.Core.List.{List, [], _∷_}
+use mathlib.Core.Bool.{cond}
+use lib.Dec.{eqb}
+use lib.ListN.{getD}
+use Rattle.blocks.specs.Nesting.{Open, openUif, openElse, openLoop, openSwitch, Ruling, goes, refused, mostOpen}
+use Rattle.checker.specs.Findings.{Seen, Finding, taken, due, mostInstructions, mostImmediates}
+use Rattle.checker.specs.Check.{programSeen}
+use Rattle.checker.specs.declared.nesting.Blocks.{Blocks}
+use Rattle.checker.specs.declared.nesting.Nested.{Nested}
+use Rattle.checker.specs.declared.walk.State.{State}
+use Rattle.checker.specs.declared.walk.Taken.{Taken}
+
+-- ---- Open blocks
+
+-- The codes of open blocks: 0 a UIF before its ELSE, 1 one after it, 2 a loop, 3 a SWITCH, 4 one whose DEFAULT has stood.
+abbrev pub openOf : ℕ → List ℕ → Open
+openOf code values =
+    cond (eqb code 0) openUif
+    (cond (eqb code 1) openElse
+    (cond (eqb code 2) openLoop
+    (openSwitch values (eqb code 4))))
+
+-- n words from a place on, the last of them first.
+abbrev pub newestFirst : List ℕ → ℕ → ℕ → List ℕ
+newestFirst words from zero = []
+newestFirst words from (suc n) = getD words (from + n) 0 ∷ newestFirst words from n
+
+-- The blocks of n codes, the last of them innermost. The CASE words of a block stand from where it starts to where the next
+-- one inside it starts, those of the innermost to `end`.
+abbrev pub blocksIn : List ℕ → List ℕ → List ℕ → ℕ → ℕ → List Open
+blocksIn codes starts values zero end = []
+blocksIn codes starts values (suc n) end =
+    openOf (getD codes n 0) (newestFirst values (getD starts n 0) (end - getD starts n 0))
+    ∷ blocksIn codes starts values n (getD starts n 0)
+
+abbrev pub blocksOf : Blocks → List ℕ → List Open
+blocksOf b values = blocksIn (b .codes) (b .starts) values (b .depth) (b .held)
+
+-- The codes are those above, and each block starts where or after the one around it does.
+abbrev pub Stacked : List ℕ → List ℕ → ℕ → ℕ → Type 0
+Stacked codes starts zero end = Unit {0}
+Stacked codes starts (suc n) end =
+    (getD codes n 0 < 5) × (getD starts n 0 ≤ end) × Stacked codes starts n (getD starts n 0)
+
+-- What the code's answer on an instruction says, the values standing in `values` after it.
+abbrev pub rulingOf : Nested → List ℕ → Ruling
+rulingOf n values = cond (eqb (n .refusal) 0) (goes (blocksOf (n .blocks) values)) (refused (n .refusal))
+
+-- ---- The state
+
+abbrev pub seen : State → List ℕ → List ℕ → Seen
+seen s words values = programSeen (s .program) words (blocksOf (s .blocks) values)
+
+abbrev pub findingOf : Taken → List ℕ → List ℕ → Finding
+findingOf t words values = cond (eqb (t .refusal) 0) (taken (seen (t .state) words values)) (due (t .refusal))
+
+pub record SoundBlocks (b : Blocks) : Type 0 where
+  pub depth : b .depth ≤ mostOpen
+  pub stacked : Stacked (b .codes) (b .starts) (b .depth) (b .held)
+
+pub record Sound (s : State) : Type 0 where
+  pub instructions : s .program .instructions ≤ mostInstructions
+  pub immediates : s .program .immediates ≤ mostImmediates
+  pub held : s .blocks .held ≤ s .program .instructions
+  pub blocks : SoundBlocks (s .blocks)
