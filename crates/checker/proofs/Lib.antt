@@ -1,1 +1,4 @@
+pub mod Choices
+pub mod Bits
+pub mod Files
 pub mod Cases

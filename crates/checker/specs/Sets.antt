@@ -2,7 +2,7 @@
 -- Assumes nothing.
 use Prim.Native.Nat.{ℕ, zero, suc, _/_, _%_, _^_}
 use mathlib.Core.List.{List, []}
-use mathlib.Core.Bool.{Bool, false, cond, _&&_, _||_}
+use mathlib.Core.Bool.{Bool, false, cond, _||_}
 use lib.Dec.{eqb}
 use lib.ListN.{getD}
 use Rattle.format.specs.Kinds.{within}
@@ -48,9 +48,16 @@ Registers = ℕ → ℕ → Bool
 abbrev pub none : Registers
 none f i = false
 
+-- Numbers with one more, and with those from first to last more.
+abbrev pub withOne : (ℕ → Bool) → ℕ → ℕ → Bool
+withOne p i j = eqb j i || p j
+
+abbrev pub withAll : (ℕ → Bool) → ℕ → ℕ → ℕ → Bool
+withAll p first last j = within first last j || p j
+
 -- The set with the registers of a file from first to last more.
 abbrev pub withRange : Registers → ℕ → ℕ → ℕ → Registers
-withRange s file first last f i = eqb f file && within first last i || s f i
+withRange s file first last f i = cond (eqb f file) (withAll (s f) first last i) (s f i)
 
 -- Whether one of n numbers from first on is as asked.
 abbrev pub anyOf : (ℕ → Bool) → ℕ → ℕ → Bool

@@ -1,11 +1,9 @@
 // Which registers of each file are declared, one bit each, in a struct of word arrays that goes by value.
 ghost use mathlib.Core.Path.{_≡_};
-ghost use mathlib.Core.Bool.{Bool, true, false, cond, _||_};
-ghost use Prim.Native.Nat.{ℕ, _<_, _≤_, _+_, _-_, _*_};
+ghost use mathlib.Core.Bool.{Bool};
+ghost use Prim.Native.Nat.{_<_, _≤_, _+_, _-_, _*_};
 ghost use lib.ListN.{length};
-ghost use lib.Dec.{eqb};
-ghost use Rattle.format.specs.Kinds.{within};
-ghost use Rattle.checker.specs.Sets.{bit, bitIn, isIn, none, withRange, anyOf, registersOf};
+ghost use Rattle.checker.specs.Sets.{bit, bitIn, isIn, none, withOne, withAll, withRange, anyOf, registersOf};
 
 pub struct Declared {
     pub consts: [u32; 32],
@@ -72,13 +70,20 @@ fn has_any(words: &[u32], first: usize, last: usize) -> bool
     false
 }
 
+// Whether a word has a bit set.
+fn has_bits(word: u32) -> bool
+    ensures { λ r. ⌜ r ≡ anyOf (bit word) 0 32 ⌝ }
+{
+    word != 0
+}
+
 // Whether any bit is set at all.
 fn has_some(words: &[u32]) -> bool
     ensures { λ r. ⌜ r ≡ anyOf (bitIn (now (words .entry))) 0 (32 * length (now (words .entry))) ⌝ }
 {
     let mut i = 0;
     while i < words.len() {
-        if words[i] != 0 {
+        if has_bits(words[i]) {
             return true;
         }
         i += 1;
@@ -89,7 +94,7 @@ fn has_some(words: &[u32]) -> bool
 // Sets bit i.
 fn set_bit(words: &mut [u32], i: usize)
     requires { ⌜ i < 32 * length (now words) ⌝ }
-    ensures { λ r. ⌜ bitIn (now (words .exit)) ≡ (λ j. eqb j i || bitIn (now (words .entry)) j) ⌝ }
+    ensures { λ r. ⌜ bitIn (now (words .exit)) ≡ withOne (bitIn (now (words .entry))) i ⌝ }
 {
     let w = i / 32;
     words[w] = words[w] | (1u32 << (i % 32) as u32);
@@ -97,8 +102,8 @@ fn set_bit(words: &mut [u32], i: usize)
 
 // Sets the bits from first to last.
 fn set_bits(words: &mut [u32], first: usize, last: usize)
-    requires { ⌜ (first ≤ last) × (last < 32 * length (now words)) ⌝ }
-    ensures { λ r. ⌜ bitIn (now (words .exit)) ≡ (λ j. within first last j || bitIn (now (words .entry)) j) ⌝ }
+    requires { ⌜ (first ≤ last) × (last < 32 * length (now words)) × (last < 65536) ⌝ }
+    ensures { λ r. ⌜ bitIn (now (words .exit)) ≡ withAll (bitIn (now (words .entry))) first last ⌝ }
 {
     let mut i = first;
     while i <= last {
