@@ -1,4 +1,5 @@
 pub mod Choices
 pub mod Bits
 pub mod Files
+pub mod Sources
 pub mod Cases

@@ -112,10 +112,10 @@ sourceFound declared words s =
     cond (indirect s) (indirectFound declared (s .file)) (directFound declared words (s .file) (s .index))
 
 -- Where this fails an instruction is refused with 9, "memory kind without MEM" too.
-unfoldable pub operandsFound : Registers → ℕ → List ℕ → ℕ → Bool
-operandsFound declared words file at =
-    allOperands (destinationFound declared) (sourceFound declared words) file at
-    && (not (memoryKind (getD file at 0)) || declared MEM 0)
+unfoldable pub operandsFound : ℕ → Registers → ℕ → List ℕ → ℕ → Bool
+operandsFound kind declared words file at =
+    allOperands kind (destinationFound declared) (sourceFound declared words) file at
+    && (not (memoryKind kind) || declared MEM 0)
 
 unfoldable pub withInstruction : Seen → List Open → Seen
 withInstruction s blocks =
@@ -136,10 +136,11 @@ nested s (refused number) = due number
 
 unfoldable pub instructionFinding : Seen → List ℕ → ℕ → Finding
 instructionFinding s file at =
+    let kind : ℕ = getD file at 0 in
     cond (leb mostInstructions (s .instructions)) (due 6)
-    (cond (not (operandRules file at)) (due 7)
-    (cond (not (operandsFound (s .declared) (length (s .immediates)) file at)) (due 9)
-    (nested s (rule (opOf (getD file at 0)) (caseWord (s .immediates) file at) (s .blocks)))))
+    (cond (not (operandRules kind file at)) (due 7)
+    (cond (not (operandsFound kind (s .declared) (length (s .immediates)) file at)) (due 9)
+    (nested s (rule (opOf kind) (caseWord (s .immediates) file at) (s .blocks)))))
 
 -- ---- Any record
 

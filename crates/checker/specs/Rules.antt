@@ -4,7 +4,6 @@ use Prim.Native.Nat.{ℕ, zero, suc, _+_, _*_, _/_, _%_}
 use mathlib.Core.List.{List}
 use mathlib.Core.Bool.{Bool, true, cond, not, _&&_, _||_}
 use lib.Dec.{eqb, leb, ltb}
-use lib.ListN.{getD}
 use Rattle.format.specs.Kinds.{Form, declaration, immediate, instruction, unknown, formOf, within}
 use Rattle.format.specs.Fields.{destinationAt, sourceAt}
 use Rattle.format.specs.declared.fields.Destination.{Destination}
@@ -97,15 +96,15 @@ abbrev pub allSources : (Source → Bool) → List ℕ → ℕ → ℕ → Bool
 allSources asked file p zero = true
 allSources asked file p (suc n) = asked (sourceAt file p) && allSources asked file (p + 5) n
 
--- Whether all operands of the instruction at a place are as asked: the destination, if it has one, and the sources after it.
-unfoldable pub allOperands : (Destination → Bool) → (Source → Bool) → List ℕ → ℕ → Bool
-allOperands askedD askedS file at =
-    let form : Form = formOf (getD file at 0) in
-    (eqb (destinations form) 0 || askedD (destinationAt file (at + 1)))
-    && allSources askedS file (at + 1 + 4 * destinations form) (sources form)
+-- Whether all operands of an instruction of this kind at a place are as asked: the destination, if it has one, and the
+-- sources after it.
+unfoldable pub allOperands : ℕ → (Destination → Bool) → (Source → Bool) → List ℕ → ℕ → Bool
+allOperands kind askedD askedS file at =
+    (eqb (destinations (formOf kind)) 0 || askedD (destinationAt file (at + 1)))
+    && allSources askedS file (at + 1 + 4 * destinations (formOf kind)) (sources (formOf kind))
 
-abbrev pub operandRules : List ℕ → ℕ → Bool
-operandRules file at = allOperands (destinationRule (getD file at 0)) (sourceRule (getD file at 0)) file at
+abbrev pub operandRules : ℕ → List ℕ → ℕ → Bool
+operandRules kind file at = allOperands kind (destinationRule kind) (sourceRule kind) file at
 
 -- ---- Declarations
 

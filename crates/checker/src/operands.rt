@@ -3,12 +3,11 @@ use format::fields::Declaration;
 use format::fields::Destination;
 use format::fields::Source;
 ghost use mathlib.Core.Path.{_≡_};
-ghost use mathlib.Core.Bool.{Bool};
-ghost use Prim.Native.Nat.{_≤_, _*_};
-ghost use Rattle.format.specs.Kinds.{within, formOf};
-ghost use Rattle.checker.specs.Rules.{destinations, sources, mayNegate, memoryKind, destinationFile, maskRule, destinationRule, sourceRule, declarationRule, allSources, operandRules};
+ghost use Prim.Native.Nat.{_≤_};
+ghost use Rattle.format.specs.Kinds.{formOf};
+ghost use Rattle.checker.specs.Rules.{destinations, sources, mayNegate, memoryKind, destinationFile, maskRule, destinationRule, sourceRule, declarationRule, allSources, allOperands, operandRules};
 ghost use Rattle.checker.specs.Sets.{isIn};
-ghost use Rattle.checker.specs.Findings.{sourceFound, operandsFound};
+ghost use Rattle.checker.specs.Findings.{destinationFound, sourceFound, operandsFound};
 use crate::sets;
 use crate::sets::Declared;
 
@@ -18,23 +17,24 @@ pub struct Operands {
     pub sources: u8,
 }
 
-// Whether a number is from lo to hi.
-fn is_within(lo: u8, hi: u8, k: u8) -> bool
-    ensures { λ r. ⌜ r ≡ within lo hi k ⌝ }
-{
-    (lo <= k) & (k <= hi)
-}
-
 // The operands of instructions of a kind, by the rule of the lengths: 4 a destination and 5 a source.
 fn operands_of(kind: u8) -> Operands
     ensures { λ r. ⌜ (r .destinations ≡ destinations (formOf kind)) × (r .sources ≡ sources (formOf kind)) ⌝ }
 {
     let length = format::kinds::body_length(kind);
     match length {
-        5 => Operands {
-            destinations: 0,
-            sources: if kind == 1 { 0 } else { 1 },
-        },
+        5 => {
+            if kind == 1 {
+                return Operands {
+                    destinations: 0,
+                    sources: 0,
+                };
+            }
+            Operands {
+                destinations: 0,
+                sources: 1,
+            }
+        }
         9 => Operands {
             destinations: 1,
             sources: 1,
@@ -62,14 +62,14 @@ fn operands_of(kind: u8) -> Operands
 fn may_negate(kind: u8) -> bool
     ensures { λ r. ⌜ r ≡ mayNegate kind ⌝ }
 {
-    is_within(0x12, 0x14, kind) | is_within(0x20, 0x37, kind) | (kind == 0x60)
+    ((0x12 <= kind) & (kind <= 0x14)) | ((0x20 <= kind) & (kind <= 0x37)) | (kind == 0x60)
 }
 
 // Whether instructions of a kind read or write memory.
 fn is_memory_kind(kind: u8) -> bool
     ensures { λ r. ⌜ r ≡ memoryKind kind ⌝ }
 {
-    (kind == 0x1e) | is_within(0x56, 0x5f, kind) | (kind == 0x64)
+    (kind == 0x1e) | ((0x56 <= kind) & (kind <= 0x5f)) | (kind == 0x64)
 }
 
 // Whether instructions of a kind may write a file: OUT or TEMP, UARL only ADDR, STORE only MEM.
@@ -87,13 +87,13 @@ fn may_write(kind: u8, file: u8) -> bool
 fn may_mask(kind: u8, mask: u8) -> bool
     ensures { λ r. ⌜ r ≡ maskRule kind mask ⌝ }
 {
-    if is_within(0x1b, 0x1d, kind) | is_within(0x40, 0x4c, kind) {
+    if ((0x1b <= kind) & (kind <= 0x1d)) | ((0x40 <= kind) & (kind <= 0x4c)) {
         return (mask == 3) | (mask == 12) | (mask == 15);
     }
-    if is_within(0x4d, 0x52, kind) {
+    if (0x4d <= kind) & (kind <= 0x52) {
         return (mask == 1) | (mask == 4) | (mask == 5);
     }
-    is_within(1, 15, mask)
+    (1 <= mask) & (mask <= 15)
 }
 
 fn destination_allowed(kind: u8, d: Destination) -> bool
@@ -121,14 +121,14 @@ pub fn declaration_allowed(d: Declaration) -> bool
     ensures { λ r. ⌜ r ≡ declarationRule d ⌝ }
 {
     let file = d.file;
-    (is_within(1, 5, file) | (file == 7))
+    (((1 <= file) & (file <= 5)) | (file == 7))
         & (d.first <= d.last)
         & ((d.last as usize) < sets::registers_of(file))
 }
 
 // Whether n sources from a place on keep the rules of a kind.
 fn sources_allowed(kind: u8, file: &[u8], from: usize, n: u8) -> bool
-    requires { ⌜ from ≤ 65546 ⌝ }
+    requires { ⌜ from ≤ 100000 ⌝ }
     ensures { λ r. ⌜ r ≡ allSources (sourceRule kind) (now (file .entry)) from n ⌝ }
 {
     let mut place = from;
@@ -143,24 +143,16 @@ fn sources_allowed(kind: u8, file: &[u8], from: usize, n: u8) -> bool
     true
 }
 
-// Whether the operands of the instruction at a place keep the rules.
-pub fn rules_kept(file: &[u8], at: usize) -> bool
+// Whether the operands of an instruction of a kind at a place keep the rules.
+pub fn rules_kept(kind: u8, file: &[u8], at: usize) -> bool
     requires { ⌜ at ≤ 65536 ⌝ }
-    ensures { λ r. ⌜ r ≡ operandRules (now (file .entry)) at ⌝ }
+    ensures { λ r. ⌜ r ≡ operandRules kind (now (file .entry)) at ⌝ }
 {
-    let kind = format::fields::byte_at(file, at);
     let operands = operands_of(kind);
-    if operands.destinations != 0 {
-        if !destination_allowed(kind, format::fields::destination_at(file, at + 1)) {
-            return false;
-        }
-    }
-    sources_allowed(
-        kind,
-        file,
-        at + 1 + 4 * operands.destinations as usize,
-        operands.sources,
-    )
+    let destination = format::fields::destination_at(file, at + 1);
+    let from = at + 1 + 4 * operands.destinations as usize;
+    ((operands.destinations == 0) | destination_allowed(kind, destination))
+        & sources_allowed(kind, file, from, operands.sources)
 }
 
 // Whether what a source names is there: a declared register, one of so many immediates' words, or for an indirect source
@@ -180,7 +172,7 @@ fn source_found(d: Declared, words: usize, s: Source) -> bool
 }
 
 fn sources_found(d: Declared, words: usize, file: &[u8], from: usize, n: u8) -> bool
-    requires { ⌜ from ≤ 65546 ⌝ }
+    requires { ⌜ from ≤ 100000 ⌝ }
     ensures { λ r. ⌜ r ≡ allSources (sourceFound (isIn d) words) (now (file .entry)) from n ⌝ }
 {
     let mut place = from;
@@ -195,27 +187,29 @@ fn sources_found(d: Declared, words: usize, file: &[u8], from: usize, n: u8) -> 
     true
 }
 
-// Whether what the instruction at a place names is there, memory for a memory kind too.
-pub fn operands_found(d: Declared, words: usize, file: &[u8], at: usize) -> bool
-    requires { ⌜ at ≤ 65536 ⌝ }
-    ensures { λ r. ⌜ r ≡ operandsFound (isIn d) words (now (file .entry)) at ⌝ }
+// Whether the register that a destination names is declared.
+fn destination_found(d: Declared, destination: Destination) -> bool
+    ensures { λ r. ⌜ r ≡ destinationFound (isIn d) destination ⌝ }
 {
-    let kind = format::fields::byte_at(file, at);
+    sets::is_declared(d, destination.file, destination.index as usize)
+}
+
+// Whether the registers and immediates that an instruction of a kind at a place names are there.
+fn registers_found(kind: u8, d: Declared, words: usize, file: &[u8], at: usize) -> bool
+    requires { ⌜ at ≤ 65536 ⌝ }
+    ensures { λ r. ⌜ r ≡ allOperands kind (destinationFound (isIn d)) (sourceFound (isIn d) words) (now (file .entry)) at ⌝ }
+{
     let operands = operands_of(kind);
-    if operands.destinations != 0 {
-        let destination = format::fields::destination_at(file, at + 1);
-        if !sets::is_declared(d, destination.file, destination.index as usize) {
-            return false;
-        }
-    }
-    if !sources_found(
-        d,
-        words,
-        file,
-        at + 1 + 4 * operands.destinations as usize,
-        operands.sources,
-    ) {
-        return false;
-    }
-    !is_memory_kind(kind) | sets::is_declared(d, 7, 0)
+    let destination = format::fields::destination_at(file, at + 1);
+    let from = at + 1 + 4 * operands.destinations as usize;
+    ((operands.destinations == 0) | destination_found(d, destination))
+        & sources_found(d, words, file, from, operands.sources)
+}
+
+// The same, and MEM for a memory kind.
+pub fn operands_found(kind: u8, d: Declared, words: usize, file: &[u8], at: usize) -> bool
+    requires { ⌜ at ≤ 65536 ⌝ }
+    ensures { λ r. ⌜ r ≡ operandsFound kind (isIn d) words (now (file .entry)) at ⌝ }
+{
+    registers_found(kind, d, words, file, at) & (!is_memory_kind(kind) | sets::is_declared(d, 7, 0))
 }
