@@ -2,4 +2,6 @@ pub mod Choices
 pub mod Bits
 pub mod Files
 pub mod Sources
+pub mod Stack
+pub mod Opening
 pub mod Cases

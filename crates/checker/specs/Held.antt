@@ -2,9 +2,10 @@
 -- Assumes nothing.
 use Prim.Native.Nat.{ℕ, zero, suc, _+_, _-_, _<_, _≤_}
 use mathlib.Core.List.{List, [], _∷_}
-use mathlib.Core.Bool.{cond}
+use mathlib.Core.Bool.{Bool, false, cond, _||_}
 use lib.Dec.{eqb}
 use lib.ListN.{getD}
+use Rattle.format.specs.Kinds.{within}
 use Rattle.blocks.specs.Nesting.{Open, openUif, openElse, openLoop, openSwitch, Ruling, goes, refused, mostOpen}
 use Rattle.checker.specs.Findings.{Seen, Finding, taken, due, mostInstructions, mostImmediates}
 use Rattle.checker.specs.Check.{programSeen}
@@ -38,6 +39,24 @@ blocksIn codes starts values (suc n) end =
 
 abbrev pub blocksOf : Blocks → List ℕ → List Open
 blocksOf b values = blocksIn (b .codes) (b .starts) values (b .depth) (b .held)
+
+-- The code of the innermost of n blocks, 5 where there is none, and where its words start.
+abbrev pub topCode : List ℕ → ℕ → ℕ
+topCode codes zero = 5
+topCode codes (suc n) = getD codes n 0
+
+abbrev pub topStart : List ℕ → ℕ → ℕ → ℕ
+topStart starts zero end = end
+topStart starts (suc n) end = getD starts n 0
+
+abbrev pub topValues : Blocks → List ℕ → List ℕ
+topValues b values =
+    newestFirst values (topStart (b .starts) (b .depth) (b .held)) (b .held - topStart (b .starts) (b .depth) (b .held))
+
+-- Whether the code of one of n blocks is from lo to hi.
+abbrev pub someCode : ℕ → ℕ → List ℕ → ℕ → Bool
+someCode lo hi codes zero = false
+someCode lo hi codes (suc n) = within lo hi (getD codes n 0) || someCode lo hi codes n
 
 -- The codes are those above, and each block starts where or after the one around it does.
 abbrev pub Stacked : List ℕ → List ℕ → ℕ → ℕ → Type 0
