@@ -4,4 +4,6 @@ pub mod Files
 pub mod Sources
 pub mod Stack
 pub mod Opening
+pub mod Records
+pub mod Keeping
 pub mod Cases

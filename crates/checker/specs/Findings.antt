@@ -74,13 +74,15 @@ declarationFinding s file at =
     (cond (overlaps (s .declared) d) (due 8)
     (taken (withDeclaration s d (at + sizeAt file at)))))
 
+-- "immediate: four words", which stand from place p on.
+abbrev pub immediateAt : List ℕ → ℕ → List ℕ
+immediateAt file p = word32 file p ∷ word32 file (p + 4) ∷ word32 file (p + 8) ∷ word32 file (p + 12) ∷ []
+
 unfoldable pub withImmediate : Seen → List ℕ → ℕ → Seen
 withImmediate s file at =
     record {
       declared = s .declared;
-      immediates =
-          s .immediates
-          ++ (word32 file (at + 1) ∷ word32 file (at + 5) ∷ word32 file (at + 9) ∷ word32 file (at + 13) ∷ []);
+      immediates = s .immediates ++ immediateAt file (at + 1);
       inputs = s .inputs;
       constants = s .constants;
       start = at + sizeAt file at;

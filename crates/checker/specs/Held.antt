@@ -1,10 +1,11 @@
 -- What the checker's own words stand for while it walks: the open blocks in arrays, and the state.
 -- Assumes nothing.
-use Prim.Native.Nat.{ℕ, zero, suc, _+_, _-_, _<_, _≤_}
+use Prim.Native.Nat.{ℕ, zero, suc, _+_, _-_, _*_, _<_, _≤_}
+use mathlib.Core.Path.{_≡_}
 use mathlib.Core.List.{List, [], _∷_}
 use mathlib.Core.Bool.{Bool, false, cond, _||_}
 use lib.Dec.{eqb}
-use lib.ListN.{getD}
+use lib.ListN.{length, getD, drop, replicate}
 use Rattle.format.specs.Kinds.{within}
 use Rattle.blocks.specs.Nesting.{Open, openUif, openElse, openLoop, openSwitch, Ruling, goes, refused, mostOpen}
 use Rattle.checker.specs.Findings.{Seen, Finding, taken, due, mostInstructions, mostImmediates}
@@ -69,6 +70,11 @@ abbrev pub rulingOf : Nested → List ℕ → Ruling
 rulingOf n values = cond (eqb (n .refusal) 0) (goes (blocksOf (n .blocks) values)) (refused (n .refusal))
 
 -- ---- The state
+
+-- The words of n immediates stand first among 1,024, and 0 after them.
+pub record Padded (n : ℕ) (words : List ℕ) : Type 0 where
+  pub all : length words ≡ 4 * mostImmediates
+  pub rest : drop (4 * n) words ≡ replicate (4 * mostImmediates - 4 * n) 0
 
 abbrev pub seen : State → List ℕ → List ℕ → Seen
 seen s words values = programSeen (s .program) words (blocksOf (s .blocks) values)
