@@ -6,4 +6,5 @@ pub mod Stack
 pub mod Opening
 pub mod Records
 pub mod Keeping
+pub mod Taking
 pub mod Cases

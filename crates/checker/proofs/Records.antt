@@ -11,12 +11,10 @@ use lib.ListN.{length, getD}
 use borrow.Author.Tests.{lt-ltb, le-ltb, le-leb, lt-leb, eq-eqb, ne-eqb, not-true, not-false}
 use Rattle.format.specs.Kinds.{lengthOf}
 use Rattle.format.specs.Records.{sizeAt}
-use Rattle.format.specs.Fields.{declarationAt, caseWord}
+use Rattle.format.specs.Fields.{declarationAt}
 use Rattle.format.specs.declared.fields.Declaration.{Declaration}
-use Rattle.blocks.specs.Control.{opOf}
-use Rattle.blocks.specs.Nesting.{Open, Ruling, goes, refused, rule}
-use Rattle.checker.specs.Rules.{declarationRule, operandRules}
-use Rattle.checker.specs.Findings.{Seen, Finding, taken, due, overlaps, withDeclaration, declarationFinding, withImmediate, immediateFinding, operandsFound, withInstruction, nested, instructionFinding, recordFinding}
+use Rattle.checker.specs.Rules.{declarationRule}
+use Rattle.checker.specs.Findings.{Seen, Finding, taken, due, overlaps, withDeclaration, declarationFinding, withImmediate, immediateFinding, instructionFinding, recordFinding}
 
 module _ (s : Seen) (file : List ℕ) (at : ℕ) where
   -- ---- Declarations
@@ -53,35 +51,6 @@ module _ (s : Seen) (file : List ℕ) (at : ℕ) where
     pub immediate-taken : n < 256 → (u : Seen) → u ≡ withImmediate s file at → taken u ≡ immediateFinding s file at
     unfolding immediateFinding
     immediate-taken h u q = rw (le-ltb 0 (s .instructions) first, lt-leb 1024 (length (s .immediates)) (omega arith), q)
-
-  -- ---- Instructions
-
-  pub instruction-6 : 1024 ≤ s .instructions → due 6 ≡ instructionFinding s file at
-  unfolding instructionFinding
-  instruction-6 h = rw (le-leb 1024 (s .instructions) h)
-
-  module _ (few : s .instructions < 1024) (kind : ℕ) (here : kind ≡ getD file at 0) (r : Bool) (rules : r ≡ operandRules kind file at) where
-    pub instruction-7 : not r ≡ true → due 7 ≡ instructionFinding s file at
-    unfolding instructionFinding
-    instruction-7 e = rw (lt-leb 1024 (s .instructions) few, ← here, ← rules, e)
-
-    module _ (kept : not r ≡ false) (n : ℕ) (count : length (s .immediates) ≡ n) (f : Bool) (found : f ≡ operandsFound kind (s .declared) n file at) where
-      pub instruction-9 : not f ≡ true → due 9 ≡ instructionFinding s file at
-      unfolding instructionFinding
-      instruction-9 e = rw (lt-leb 1024 (s .instructions) few, ← here, ← rules, kept, count, ← found, e)
-
-      module _ (there : not f ≡ false) (x : ℕ) (word : x ≡ caseWord (s .immediates) file at) (m : ℕ) (σ : List Open)
-        (says : cond (eqb m 0) (goes σ) (refused m) ≡ rule (opOf kind) x (s .blocks))
-        where
-        by-rule : nested s (cond (eqb m 0) (goes σ) (refused m)) ≡ instructionFinding s file at
-        unfolding instructionFinding
-        by-rule = rw (lt-leb 1024 (s .instructions) few, ← here, ← rules, kept, count, ← found, there, ← word, says)
-
-        pub instruction-refused : (m ≡ 0 → ⊥) → (t : Finding) → cond (eqb m 0) t (due m) ≡ instructionFinding s file at
-        instruction-refused h t = rw (ne-eqb m 0 h) (rw (ne-eqb m 0 h) at by-rule)
-
-        pub instruction-taken : m ≡ 0 → (u : Seen) → u ≡ withInstruction s σ → taken u ≡ instructionFinding s file at
-        instruction-taken e u q = rw q (rw (eq-eqb m 0 e) at by-rule)
 
   -- ---- Any record
 

@@ -3,15 +3,18 @@
 use Prim.Native.Nat.{ℕ, zero, suc, _+_, _-_, _*_, _<_, _≤_}
 use mathlib.Core.Path.{_≡_}
 use mathlib.Core.List.{List, [], _∷_}
-use mathlib.Core.Bool.{Bool, false, cond, _||_}
-use lib.Dec.{eqb}
+use mathlib.Core.Bool.{Bool, true, false, cond, not, _||_}
+use lib.Dec.{eqb, leb}
 use lib.ListN.{length, getD, drop, replicate}
 use Rattle.format.specs.Kinds.{within}
 use Rattle.blocks.specs.Nesting.{Open, openUif, openElse, openLoop, openSwitch, Ruling, goes, refused, mostOpen}
-use Rattle.checker.specs.Findings.{Seen, Finding, taken, due, mostInstructions, mostImmediates}
+use Rattle.checker.specs.Sets.{isIn}
+use Rattle.checker.specs.Rules.{operandRules}
+use Rattle.checker.specs.Findings.{Seen, Finding, taken, due, mostInstructions, mostImmediates, operandsFound}
 use Rattle.checker.specs.Check.{programSeen}
 use Rattle.checker.specs.declared.nesting.Blocks.{Blocks}
 use Rattle.checker.specs.declared.nesting.Nested.{Nested}
+use Rattle.checker.specs.declared.program.Program.{Program}
 use Rattle.checker.specs.declared.walk.State.{State}
 use Rattle.checker.specs.declared.walk.Taken.{Taken}
 
@@ -81,6 +84,33 @@ seen s words values = programSeen (s .program) words (blocksOf (s .blocks) value
 
 abbrev pub findingOf : Taken → List ℕ → List ℕ → Finding
 findingOf t words values = cond (eqb (t .refusal) 0) (taken (seen (t .state) words values)) (due (t .refusal))
+
+-- The lowest of 6, 7 and 9 that applies to an instruction, 0 for none.
+unfoldable pub operandRefusal : Program → ℕ → List ℕ → ℕ → ℕ
+operandRefusal p kind file at =
+    cond (leb mostInstructions (p .instructions)) 6
+    (cond (not (operandRules kind file at)) 7
+    (cond (not (operandsFound kind (isIn (p .declared)) (4 * p .immediates) file at)) 9
+    0))
+
+-- The state after an instruction that the rules of nesting let pass, or their refusal.
+abbrev pub instructed : Program → Program
+instructed p =
+    record {
+      declared = p .declared;
+      immediates = p .immediates;
+      inputs = p .inputs;
+      constants = p .constants;
+      start = p .start;
+      instructions = p .instructions + 1;
+    }
+
+abbrev pub takenBy : Bool → State → Nested → Taken
+takenBy true s n = record { refusal = 0; state = record { program = instructed (s .program); blocks = n .blocks } }
+takenBy false s n = record { refusal = n .refusal; state = s }
+
+abbrev pub takenOf : State → Nested → Taken
+takenOf s n = takenBy (eqb (n .refusal) 0) s n
 
 pub record SoundBlocks (b : Blocks) : Type 0 where
   pub depth : b .depth ≤ mostOpen
