@@ -8,7 +8,9 @@ use native.Mathlib.Omega.{arith}
 use lib.Dec.{eqb, leb, ltb}
 use lib.ListN.{length, getD, take}
 use borrow.Author.Tests.{eq-eqb, ne-eqb, le-leb, lt-leb, leb-false, not-false}
+use Rattle.format.specs.Records.{sizeAt}
 use Rattle.format.specs.Fields.{caseWord}
+use Rattle.format.proofs.Walk.{size-fits}
 use Rattle.blocks.specs.Control.{opOf}
 use Rattle.blocks.specs.Nesting.{Open, Ruling, goes, refused, rule}
 use Rattle.checker.specs.Rules.{operandRules}
@@ -47,6 +49,17 @@ sound-immediate s q h e f l =
     let a = h .instructions in
     let c = h .held in
     record { instructions = omega arith; immediates = omega arith; held = omega arith; blocks = h .blocks }
+
+pub padded-same : (k n : ℕ) (words : List ℕ) → k ≡ n → Padded n words → Padded k words
+padded-same k n words e h = rw e h
+
+-- The place after a record.
+module _ (file : List ℕ) (at size : ℕ) (sized : size ≡ sizeAt file at) where
+  pub next-is : at + size ≡ at + sizeAt file at
+  next-is = ap (λ (n : ℕ). at + n) sized
+
+  pub next-small : at ≤ length file → length file ≤ 65536 → at + size ≤ 65536
+  next-small h l = omega (arith, size-fits file at h)
 
 -- ---- Instructions
 

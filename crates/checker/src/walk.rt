@@ -161,3 +161,23 @@ fn instruction(s: State, file: &[u8], at: usize, words: &[u32], values: &mut [u3
     nested_instruction(s, values, kind, word)
 }
 
+// The record at a place.
+fn record(s: State, file: &[u8], at: usize, words: &mut [u32], values: &mut [u32]) -> Taken
+    requires { ⌜ Sound s × (at ≤ length (now file)) × (length (now file) ≤ 65536) × Padded (s .program .immediates) (now words) × (length (now values) ≡ 1024) ⌝ }
+    ensures found { λ r. ⌜ findingOf r (now (words .exit)) (now (values .exit)) ≡ recordFinding (seen s (now (words .entry)) (now (values .entry))) (now (file .entry)) at ⌝ }
+    ensures sound { λ r. ⌜ Sound (r .state) × Padded (r .state .program .immediates) (now (words .exit)) ⌝ }
+{
+    let kind = format::fields::byte_at(file, at);
+    if format::kinds::body_length(kind) == format::kinds::UNKNOWN {
+        return Taken { refusal: 3, state: s };
+    }
+    let size = format::records::size_at(file, at);
+    if size == 0 {
+        return Taken { refusal: 4, state: s };
+    }
+    match kind {
+        1 => declaration(s, file, at, at + size),
+        2 => immediate(s, file, at, at + size, words),
+        _ => instruction(s, file, at, words, values),
+    }
+}
