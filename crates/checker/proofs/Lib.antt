@@ -7,4 +7,5 @@ pub mod Opening
 pub mod Records
 pub mod Keeping
 pub mod Taking
+pub mod Walking
 pub mod Cases

@@ -2,7 +2,7 @@
 -- Assumes nothing.
 use mathlib.Core.Path.{_≡_, refl, sym, ap, _∙_, subst}
 use mathlib.Core.Bool.{Bool, true, false, cond, not}
-use mathlib.Core.List.{List}
+use mathlib.Core.List.{List, []}
 use Prim.Native.Nat.{ℕ, _+_, _*_, _<_, _≤_}
 use native.Mathlib.Omega.{arith}
 use lib.Dec.{eqb, leb, ltb}
@@ -15,9 +15,10 @@ use Rattle.blocks.specs.Control.{opOf}
 use Rattle.blocks.specs.Nesting.{Open, Ruling, goes, refused, rule}
 use Rattle.checker.specs.Rules.{operandRules}
 use Rattle.checker.specs.Sets.{isIn}
-use Rattle.checker.specs.Findings.{Seen, Finding, taken, due, operandsFound, withInstruction, nested, instructionFinding}
+use Rattle.checker.specs.Findings.{Seen, nothing, Finding, taken, due, operandsFound, withInstruction, nested, instructionFinding}
 use Rattle.checker.specs.Check.{programSeen}
-use Rattle.checker.specs.Held.{blocksOf, rulingOf, seen, findingOf, operandRefusal, instructed, takenBy, takenOf, Padded, SoundBlocks, Sound}
+use Rattle.checker.specs.Held.{Stacked, blocksOf, rulingOf, seen, findingOf, operandRefusal, instructed, takenBy, takenOf, Padded, SoundBlocks, Sound}
+use Rattle.checker.specs.declared.nesting.Blocks.{Blocks}
 use Rattle.checker.specs.declared.nesting.Nested.{Nested}
 use Rattle.checker.specs.declared.program.Program.{Program}
 use Rattle.checker.specs.declared.walk.State.{State}
@@ -28,6 +29,7 @@ pub kept-rule : (r x : Bool) → r ≡ x → not r ≡ false → x ≡ true
 kept-rule r x e h = sym e ∙ not-false r h
 
 pub immediates-counted : (s : State) (words values : List ℕ) → Sound s → Padded (s .program .immediates) words → length (seen s words values .immediates) ≡ 4 * s .program .immediates
+unfolding seen
 immediates-counted s words values h p = count-words words (s .program .immediates) (h .immediates) p
 
 -- ---- Bounds
@@ -49,6 +51,20 @@ sound-immediate s q h e f l =
     let a = h .instructions in
     let c = h .held in
     record { instructions = omega arith; immediates = omega arith; held = omega arith; blocks = h .blocks }
+
+-- Nothing is open, and nothing has been counted.
+module _ (p : Program) (b : Blocks) (depth : b .depth ≡ 0) where
+  pub nothing-seen : (words values : List ℕ) → programSeen p words [] ≡ nothing → programSeen p words (blocksOf b values) ≡ nothing
+  nothing-seen words values e = rw depth e
+
+  pub nothing-counted : b .held ≡ 0 → p .immediates ≡ 0 → p .instructions ≡ 0 → Sound (record { program = p; blocks = b })
+  nothing-counted h i n =
+      record {
+        instructions = omega arith;
+        immediates = omega arith;
+        held = omega arith;
+        blocks = record { depth = omega arith; stacked = subst (λ (k : ℕ). Stacked (b .codes) (b .starts) k (b .held)) (sym depth) tt };
+      }
 
 pub padded-same : (k n : ℕ) (words : List ℕ) → k ≡ n → Padded n words → Padded k words
 padded-same k n words e h = rw e h
@@ -104,7 +120,7 @@ module _ (s : State) (kind : ℕ) (words values file : List ℕ) (at : ℕ) (pad
       ≡ cond (eqb (operandRefusal (s .program) kind file at) 0)
       (nested (seen s words values) (rule (opOf kind) (caseWord (take (4 * s .program .immediates) words) file at) (blocksOf (s .blocks) values)))
       (due (operandRefusal (s .program) kind file at))
-  unfolding instructionFinding operandRefusal
+  unfolding instructionFinding operandRefusal seen
   whole =
       rw (immediates-counted s words values sound padded, ← here)
       (by (leb 1024 (s .program .instructions)) (not (operandRules kind file at)) (not (operandsFound kind (isIn (s .program .declared)) (4 * s .program .immediates) file at)) _)
@@ -148,7 +164,7 @@ module _ (s : State) (n : Nested) where
 
     pub nested-says : (words values after : List ℕ) (kind x : ℕ) → rulingOf n after ≡ rule (opOf kind) x (blocksOf (s .blocks) values)
         → findingOf t words after ≡ nested (seen s words values) (rule (opOf kind) x (blocksOf (s .blocks) values))
-    unfolding withInstruction
+    unfolding withInstruction seen
     nested-says words values after kind x says = rw is (by (eqb (n .refusal) 0) refl ∙ ap (nested (seen s words values)) says) where
       by : (b : Bool) → eqb (n .refusal) 0 ≡ b → findingOf (takenBy b s n) words after ≡ nested (seen s words values) (cond b (goes (blocksOf (n .blocks) after)) (refused (n .refusal)))
       by true e = refl

@@ -1,11 +1,10 @@
 -- The whole check: "Records are taken in file order", up to the first refusal or to END.
 -- Assumes nothing.
-use Prim.Native.Nat.{ℕ, zero, suc, _+_, _*_}
-use mathlib.Core.List.{List, []}
+use Prim.Native.Nat.{ℕ, zero, suc, _+_, _-_, _*_}
+use mathlib.Core.List.{List, [], _++_}
 use mathlib.Core.Bool.{cond}
 use lib.Dec.{eqb, ltb}
-use lib.ListN.{length, getD, take}
-use lib.Seq.{sets}
+use lib.ListN.{length, getD, take, replicate}
 use Rattle.format.specs.Records.{longest, sizeAt}
 use Rattle.blocks.specs.Nesting.{Open}
 use Rattle.checker.specs.Sets.{isIn}
@@ -77,8 +76,8 @@ concluded (Refused number place) s = refused number place
 abbrev pub outcome : Checked → List ℕ → Outcome
 outcome c words = concluded (c .verdict) (programSeen (c .program) words [])
 
--- What the lent words hold after the check: the immediates' words from the first on where the program is accepted, and what
--- they held before otherwise.
+-- What the 1,024 lent words hold after the check: where the program is accepted the immediates' words in order, and 0 after
+-- them, and what they held before otherwise.
 abbrev pub wordsAfter : Outcome → List ℕ → List ℕ
-wordsAfter (accepted s) words = sets words 0 (s .immediates)
+wordsAfter (accepted s) words = s .immediates ++ replicate (1024 - length (s .immediates)) 0
 wordsAfter (refused number place) words = words

@@ -4,19 +4,25 @@ use Prim.Native.Nat.{ℕ, zero, suc, _+_, _-_, _*_, _<_, _≤_}
 use mathlib.Core.Path.{_≡_}
 use mathlib.Core.List.{List, [], _∷_}
 use mathlib.Core.Bool.{Bool, true, false, cond, not, _||_}
-use lib.Dec.{eqb, leb}
+use lib.Dec.{eqb, leb, ltb}
 use lib.ListN.{length, getD, drop, replicate}
 use Rattle.format.specs.Kinds.{within}
+use Rattle.format.specs.Records.{sizeAt}
 use Rattle.blocks.specs.Nesting.{Open, openUif, openElse, openLoop, openSwitch, Ruling, goes, refused, mostOpen}
 use Rattle.checker.specs.Sets.{isIn}
 use Rattle.checker.specs.Rules.{operandRules}
-use Rattle.checker.specs.Findings.{Seen, Finding, taken, due, mostInstructions, mostImmediates, operandsFound}
-use Rattle.checker.specs.Check.{programSeen}
+use Rattle.checker.specs.Findings.{Seen, Finding, taken, due, mostInstructions, mostImmediates, operandsFound, recordFinding}
+use Rattle.checker.specs.Check.{Outcome, onward, programSeen, concluded}
+use Rattle.checker.specs.declared.Verdict.{Verdict}
+use Rattle.checker.specs.declared.Verdict.the-variants.{Accepted, Refused}
 use Rattle.checker.specs.declared.nesting.Blocks.{Blocks}
 use Rattle.checker.specs.declared.nesting.Nested.{Nested}
 use Rattle.checker.specs.declared.program.Program.{Program}
 use Rattle.checker.specs.declared.walk.State.{State}
 use Rattle.checker.specs.declared.walk.Taken.{Taken}
+use Rattle.checker.specs.declared.walk.Turn.{Turn}
+use Rattle.checker.specs.declared.walk.Way.{Way}
+use Rattle.checker.specs.declared.walk.Way.the-variants.{On, Ended}
 
 -- ---- Open blocks
 
@@ -79,7 +85,7 @@ pub record Padded (n : ℕ) (words : List ℕ) : Type 0 where
   pub all : length words ≡ 4 * mostImmediates
   pub rest : drop (4 * n) words ≡ replicate (4 * mostImmediates - 4 * n) 0
 
-abbrev pub seen : State → List ℕ → List ℕ → Seen
+unfoldable pub seen : State → List ℕ → List ℕ → Seen
 seen s words values = programSeen (s .program) words (blocksOf (s .blocks) values)
 
 abbrev pub findingOf : Taken → List ℕ → List ℕ → Finding
@@ -111,6 +117,34 @@ takenBy false s n = record { refusal = n .refusal; state = s }
 
 abbrev pub takenOf : State → Nested → Taken
 takenOf s n = takenBy (eqb (n .refusal) 0) s n
+
+-- What an END at a place comes to in a file of this length: refusal 2, or an accepted program.
+unfoldable pub endOf : ℕ → ℕ → ℕ → Verdict
+endOf instructions at end = cond (ltb (at + 1) end) (Refused 2 (at + 1)) (Accepted instructions)
+
+-- What the walk comes to after a turn, `rest` standing for the rest of it.
+abbrev pub goesOn : Way → Seen → Seen → (Seen → Outcome) → Outcome
+goesOn On after ended rest = rest after
+goesOn (Ended verdict) after ended rest = concluded verdict ended
+
+-- An accepted program has so many instructions.
+abbrev pub Tells : Verdict → ℕ → Type 0
+Tells (Accepted instructions) n = instructions ≡ n
+Tells (Refused number place) n = Unit {0}
+
+abbrev pub WayTells : Way → ℕ → Type 0
+WayTells On n = Unit {0}
+WayTells (Ended verdict) n = Tells verdict n
+
+abbrev pub wayOf : Turn → List ℕ → List ℕ → (Seen → Outcome) → Outcome
+wayOf t words values rest = goesOn (t .way) (seen (t .state) words values) (programSeen (t .state .program) words []) rest
+
+-- A turn at a place: it leads the walk as the definition does, it goes on only past a whole record, and an accepted program
+-- has the instructions that were counted.
+pub record Turned (s : Seen) (file : List ℕ) (at : ℕ) (t : Turn) (words values : List ℕ) : Type 0 where
+  pub leads : (rest : Seen → Outcome) → wayOf t words values rest ≡ onward (recordFinding s file at) file at rest
+  pub whole : t .way ≡ On → sizeAt file at ≡ 0 → ⊥
+  pub tells : WayTells (t .way) (t .state .program .instructions)
 
 pub record SoundBlocks (b : Blocks) : Type 0 where
   pub depth : b .depth ≤ mostOpen

@@ -16,8 +16,9 @@ ghost use Rattle.format.specs.Records.{sizeAt};
 ghost use Rattle.format.specs.Fields.{caseWord};
 ghost use Rattle.blocks.specs.Control.{opOf};
 ghost use Rattle.blocks.specs.Nesting.{rule};
-ghost use Rattle.checker.specs.Findings.{nested, declarationFinding, immediateFinding, instructionFinding, recordFinding};
-ghost use Rattle.checker.specs.Held.{blocksOf, seen, findingOf, operandRefusal, takenOf, Sound, Padded};
+ghost use Rattle.checker.specs.Findings.{nothing, nested, declarationFinding, immediateFinding, instructionFinding, recordFinding};
+ghost use Rattle.checker.specs.Check.{checkOf, told, toldOf, outcome};
+ghost use Rattle.checker.specs.Held.{blocksOf, seen, findingOf, operandRefusal, takenOf, endOf, Turned, Sound, Padded};
 
 // What the checker knows after some records.
 pub struct State {
@@ -31,9 +32,23 @@ pub struct Taken {
     pub state: State,
 }
 
+// How the walk goes on after a record: to the next record, or not.
+pub enum Way {
+    On,
+    Ended(Verdict),
+}
+
+// The state after a record, and how the walk goes on.
+pub struct Turn {
+    pub state: State,
+    pub way: Way,
+}
+
 const MOST_INSTRUCTIONS: u32 = 1024;
 
 const MOST_IMMEDIATES: u32 = 256;
+
+const END: u8 = 0x89;
 
 // The declaration at a place, which is followed by the place `next`.
 fn declaration(s: State, file: &[u8], at: usize, next: usize) -> Taken
@@ -179,5 +194,87 @@ fn record(s: State, file: &[u8], at: usize, words: &mut [u32], values: &mut [u32
         1 => declaration(s, file, at, at + size),
         2 => immediate(s, file, at, at + size, words),
         _ => instruction(s, file, at, words, values),
+    }
+}
+
+// Nothing has been seen.
+fn started() -> State
+    ensures { λ r. ⌜ ((words : List ℕ) (values : List ℕ) → seen r words values ≡ nothing) × Sound r × (r .program .immediates ≡ 0) ⌝ }
+{
+    State {
+        program: program::unseen(),
+        blocks: nesting::none_open(),
+    }
+}
+
+// What an END at a place comes to that no rule refuses, in a file of this length.
+fn end_verdict(instructions: u32, at: usize, end: usize) -> Verdict
+    requires { ⌜ at < 65536 ⌝ }
+    ensures { λ r. ⌜ r ≡ endOf instructions at end ⌝ }
+{
+    if at + 1 < end {
+        return Verdict::Refused(2, at as u32 + 1);
+    }
+    Verdict::Accepted(instructions)
+}
+
+// The record at a place, and how the walk goes on after it.
+fn take_turn(s: State, file: &[u8], at: usize, words: &mut [u32], values: &mut [u32]) -> Turn
+    requires { ⌜ Sound s × (at < length (now file)) × (length (now file) ≤ 65536) × Padded (s .program .immediates) (now words) × (length (now values) ≡ 1024) ⌝ }
+    ensures turned { λ r. ⌜ Turned (seen s (now (words .entry)) (now (values .entry))) (now (file .entry)) at r (now (words .exit)) (now (values .exit)) ⌝ }
+    ensures sound { λ r. ⌜ Sound (r .state) × Padded (r .state .program .immediates) (now (words .exit)) ⌝ }
+{
+    let taken = record(s, file, at, words, values);
+    let state = taken.state;
+    if taken.refusal != 0 {
+        return Turn {
+            state,
+            way: Way::Ended(Verdict::Refused(taken.refusal, at as u32)),
+        };
+    }
+    if format::fields::byte_at(file, at) != END {
+        return Turn {
+            state,
+            way: Way::On,
+        };
+    }
+    let program = taken.state.program;
+    let verdict = end_verdict(program.instructions, at, file.len());
+    Turn {
+        state,
+        way: Way::Ended(verdict),
+    }
+}
+
+// The whole check. The immediates' words go to the first of `words`, which are 0 before; `values` holds the words of CASEs.
+pub fn walk(file: &[u8], words: &mut [u32], values: &mut [u32]) -> Checked
+    requires { ⌜ Padded 0 (now words) × (length (now values) ≡ 1024) ⌝ }
+    ensures found { λ r. ⌜ outcome r (now (words .exit)) ≡ checkOf (now (file .entry)) ⌝ }
+    ensures told { λ r. ⌜ told (r .verdict) ≡ toldOf (checkOf (now (file .entry))) ⌝ }
+    ensures padded { λ r. ⌜ Padded (r .program .immediates) (now (words .exit)) × (r .program .immediates ≤ 256) ⌝ }
+{
+    let end = file.len();
+    if format::records::LONGEST < end {
+        return Checked {
+            verdict: Verdict::Refused(1, 0),
+            program: program::unseen(),
+        };
+    }
+    let mut s = started();
+    let mut at: usize = 0;
+    while at < end {
+        let turn = take_turn(s, file, at, words, values);
+        s = turn.state;
+        let way = turn.way;
+        if let Way::Ended(verdict) = way {
+            let program = s.program;
+            return Checked { verdict, program };
+        }
+        at += format::records::size_at(file, at);
+    }
+    let program = s.program;
+    Checked {
+        verdict: Verdict::Refused(13, end as u32),
+        program,
     }
 }
