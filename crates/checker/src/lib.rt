@@ -45,8 +45,11 @@ pub fn examine(file: &[u8], immediates: &mut [u32; 1024]) -> Checked
     let mut values = [0u32; 1024];
     let checked = walk::walk(file, &mut words, &mut values);
     let verdict = checked.verdict;
-    if let Verdict::Accepted(_) = verdict {
-        *immediates = words;
+    match verdict {
+        Verdict::Accepted(_) => {
+            *immediates = words;
+            checked
+        }
+        Verdict::Refused(_, _) => checked,
     }
-    checked
 }
