@@ -1,0 +1,11 @@
+pub mod Choices
+pub mod Bits
+pub mod Files
+pub mod Sources
+pub mod Stack
+pub mod Opening
+pub mod Records
+pub mod Keeping
+pub mod Taking
+pub mod Walking
+pub mod Cases

@@ -1,0 +1,246 @@
+-- The open blocks as they stand in the checker's arrays: what a rule asks of the innermost, or of some block, is a range of
+-- codes.
+-- Assumes nothing.
+use mathlib.Core.Path.{_≡_, refl, sym, ap, _∙_, subst}
+use mathlib.Core.Bool.{Bool, true, false, cond, not, _&&_, _||_}
+use mathlib.Core.List.{List, [], _∷_}
+use Prim.Native.Nat.{ℕ, zero, suc, _+_, _-_, _<_, _≤_}
+use native.Mathlib.Omega.{arith}
+use lib.Dec.{eqb, leb, ltb}
+use lib.ListN.{length, getD}
+use borrow.Author.Tests.{eq-eqb, ne-eqb}
+use Rattle.format.specs.Kinds.{within}
+use Rattle.blocks.specs.Control.{Op, PLAIN, opOf}
+use Rattle.blocks.specs.Nesting.{Open, openUif, openElse, openLoop, openSwitch, isUif, isElse, isLoop, isSwitch, anySwitch, some, innermost, nestingRule, switchRule, opens, openAfter}
+use Rattle.checker.specs.Held.{openOf, newestFirst, blocksIn, blocksOf, topCode, topStart, topValues, someCode, Stacked, SoundBlocks}
+use Rattle.checker.specs.declared.nesting.Blocks.{Blocks}
+use Rattle.checker.proofs.Choices.{when-number}
+
+-- ---- Kinds
+
+-- A property of every kind, from the twelve that steer and the others.
+pub op-cases : (P : ℕ → Type 0) → P 0x81 → P 0x82 → P 0x83 → P 0x84 → P 0x85 → P 0x86 → P 0x87 → P 0x88 → P 0x89 → P 0x90 → P 0x91 → P 0x92
+    → ((k : ℕ) → opOf k ≡ PLAIN → eqb k 0x83 ≡ false → eqb k 0x90 ≡ false → eqb k 0x91 ≡ false → P k) → (k : ℕ) → P k
+unfolding opOf
+op-cases P p81 p82 p83 p84 p85 p86 p87 p88 p89 p90 p91 p92 plain k =
+    when-number P 0x81 p81 k (λ e81. when-number P 0x82 p82 k (λ e82. when-number P 0x83 p83 k (λ e83.
+    when-number P 0x84 p84 k (λ e84. when-number P 0x85 p85 k (λ e85. when-number P 0x86 p86 k (λ e86.
+    when-number P 0x87 p87 k (λ e87. when-number P 0x88 p88 k (λ e88. when-number P 0x89 p89 k (λ e89.
+    when-number P 0x90 p90 k (λ e90. when-number P 0x91 p91 k (λ e91. when-number P 0x92 p92 k (λ e92.
+    plain k (others e81 e82 e83 e84 e85 e86 e87 e88 e89 e90 e91 e92) e83 e90 e91))))))))))))
+    where
+  others : eqb k 0x81 ≡ false → eqb k 0x82 ≡ false → eqb k 0x83 ≡ false → eqb k 0x84 ≡ false → eqb k 0x85 ≡ false → eqb k 0x86 ≡ false
+      → eqb k 0x87 ≡ false → eqb k 0x88 ≡ false → eqb k 0x89 ≡ false → eqb k 0x90 ≡ false → eqb k 0x91 ≡ false → eqb k 0x92 ≡ false → opOf k ≡ PLAIN
+  others e81 e82 e83 e84 e85 e86 e87 e88 e89 e90 e91 e92 = rw (e81, e82, e83, e84, e85, e86, e87, e88, e89, e90, e91, e92)
+
+-- ---- Codes
+
+-- A property of blocks that goes by a range of codes.
+abbrev Ranged : (Open → Bool) → ℕ → ℕ → Type 0
+Ranged f lo hi = (k : ℕ) (vs : List ℕ) → k < 5 → f (openOf k vs) ≡ within lo hi k
+
+pub code-cases : (P : ℕ → Type 0) → P 0 → P 1 → P 2 → P 3 → P 4 → (k : ℕ) → k < 5 → P k
+code-cases P p0 p1 p2 p3 p4 zero h = p0
+code-cases P p0 p1 p2 p3 p4 (suc zero) h = p1
+code-cases P p0 p1 p2 p3 p4 (suc (suc zero)) h = p2
+code-cases P p0 p1 p2 p3 p4 (suc (suc (suc zero))) h = p3
+code-cases P p0 p1 p2 p3 p4 (suc (suc (suc (suc zero)))) h = p4
+code-cases P p0 p1 p2 p3 p4 (suc (suc (suc (suc (suc k))))) h = absurd (omega arith)
+
+ranged : (f : Open → Bool) (lo hi : ℕ) → ((vs : List ℕ) → (f (openOf 0 vs) ≡ within lo hi 0) × (f (openOf 1 vs) ≡ within lo hi 1)
+    × (f (openOf 2 vs) ≡ within lo hi 2) × (f (openOf 3 vs) ≡ within lo hi 3) × (f (openOf 4 vs) ≡ within lo hi 4)) → Ranged f lo hi
+ranged f lo hi h k vs l = code-cases (λ (k : ℕ). f (openOf k vs) ≡ within lo hi k) (h vs .0) (h vs .1) (h vs .2) (h vs .3) (h vs .4) k l
+
+module _ (codes starts values : List ℕ) where
+  top-is : (f : Open → Bool) (lo hi : ℕ) → within lo hi 5 ≡ false → Ranged f lo hi → (n end : ℕ) → Stacked codes starts n end
+      → within lo hi (topCode codes n) ≡ innermost f (blocksIn codes starts values n end)
+  top-is f lo hi z r zero end s = z
+  top-is f lo hi z r (suc n) end s = sym (r (getD codes n 0) (newestFirst values (getD starts n 0) (end - getD starts n 0)) (s .0))
+
+  some-is : (f : Open → Bool) (lo hi : ℕ) → Ranged f lo hi → (n end : ℕ) → Stacked codes starts n end
+      → someCode lo hi codes n ≡ some f (blocksIn codes starts values n end)
+  some-is f lo hi r zero end s = refl
+  some-is f lo hi r (suc n) end s =
+      rw (r (getD codes n 0) (newestFirst values (getD starts n 0) (end - getD starts n 0)) (s .0), some-is f lo hi r n (getD starts n 0) (s .2))
+
+  pub blocks-length : (n end : ℕ) → length (blocksIn codes starts values n end) ≡ n
+  blocks-length zero end = refl
+  blocks-length (suc n) end = ap suc (blocks-length n (getD starts n 0))
+
+-- ---- The rule of nesting
+
+module _ (b : Blocks) (sound : SoundBlocks b) (kind : ℕ) (r : Bool) (values : List ℕ) where
+  -- A kind k that asks something of the innermost block, and one that asks it of some block.
+  innermost-by : (k lo hi : ℕ) (f : Open → Bool) → ((σ : List Open) → nestingRule (opOf k) σ ≡ innermost f σ) → within lo hi 5 ≡ false → Ranged f lo hi
+      → kind ≡ k → r ≡ within lo hi (topCode (b .codes) (b .depth)) → r ≡ nestingRule (opOf kind) (blocksOf b values)
+  innermost-by k lo hi f rule z g e q =
+      q ∙ top-is (b .codes) (b .starts) values f lo hi z g (b .depth) (b .held) (sound .stacked) ∙ sym (rule (blocksOf b values)) ∙ rw e refl
+
+  some-by : (k lo hi : ℕ) (f : Open → Bool) → ((σ : List Open) → nestingRule (opOf k) σ ≡ some f σ) → Ranged f lo hi
+      → kind ≡ k → r ≡ someCode lo hi (b .codes) (b .depth) → r ≡ nestingRule (opOf kind) (blocksOf b values)
+  some-by k lo hi f rule g e q =
+      q ∙ some-is (b .codes) (b .starts) values f lo hi g (b .depth) (b .held) (sound .stacked) ∙ sym (rule (blocksOf b values)) ∙ rw e refl
+
+  pub else-by : kind ≡ 0x81 → r ≡ within 0 0 (topCode (b .codes) (b .depth)) → r ≡ nestingRule (opOf kind) (blocksOf b values)
+  unfolding opOf
+  else-by = innermost-by 0x81 0 0 isUif (λ σ. refl) refl (ranged isUif 0 0 (λ vs. (refl, refl, refl, refl, refl)))
+
+  pub endif-by : kind ≡ 0x82 → r ≡ within 0 1 (topCode (b .codes) (b .depth)) → r ≡ nestingRule (opOf kind) (blocksOf b values)
+  unfolding opOf
+  endif-by =
+      innermost-by 0x82 0 1 (λ o. isUif o || isElse o) (λ σ. refl) refl (ranged (λ o. isUif o || isElse o) 0 1 (λ vs. (refl, refl, refl, refl, refl)))
+
+  pub endloop-by : kind ≡ 0x84 → r ≡ within 2 2 (topCode (b .codes) (b .depth)) → r ≡ nestingRule (opOf kind) (blocksOf b values)
+  unfolding opOf
+  endloop-by = innermost-by 0x84 2 2 isLoop (λ σ. refl) refl (ranged isLoop 2 2 (λ vs. (refl, refl, refl, refl, refl)))
+
+  pub brk-by : kind ≡ 0x85 → r ≡ someCode 2 4 (b .codes) (b .depth) → r ≡ nestingRule (opOf kind) (blocksOf b values)
+  unfolding opOf
+  brk-by =
+      some-by 0x85 2 4 (λ o. isLoop o || anySwitch o) (λ σ. refl) (ranged (λ o. isLoop o || anySwitch o) 2 4 (λ vs. (refl, refl, refl, refl, refl)))
+
+  pub cont-by : kind ≡ 0x86 → r ≡ someCode 2 2 (b .codes) (b .depth) → r ≡ nestingRule (opOf kind) (blocksOf b values)
+  unfolding opOf
+  cont-by = some-by 0x86 2 2 isLoop (λ σ. refl) (ranged isLoop 2 2 (λ vs. (refl, refl, refl, refl, refl)))
+
+-- CASE, DEFAULT and ENDSWITCH.
+pub label-by : (k : ℕ) → ((σ : List Open) → nestingRule (opOf k) σ ≡ innermost anySwitch σ)
+    → (b : Blocks) → SoundBlocks b → (kind : ℕ) (r : Bool) (values : List ℕ)
+    → kind ≡ k → r ≡ within 3 4 (topCode (b .codes) (b .depth)) → r ≡ nestingRule (opOf kind) (blocksOf b values)
+label-by k rule b sound kind r values =
+    innermost-by b sound kind r values k 3 4 anySwitch rule refl (ranged anySwitch 3 4 (λ vs. (refl, refl, refl, refl, refl)))
+
+pub end-by : (b : Blocks) (kind : ℕ) (values : List ℕ) → kind ≡ 0x89 → eqb (b .depth) 0 ≡ nestingRule (opOf kind) (blocksOf b values)
+unfolding opOf
+end-by b kind values e =
+    rw e (ap (λ (n : ℕ). eqb n 0) (sym (blocks-length (b .codes) (b .starts) values (b .depth) (b .held))))
+
+pub nested-anyway : (b : Blocks) (kind : ℕ) (values : List ℕ) → (kind ≡ 0x81 → ⊥) → (kind ≡ 0x82 → ⊥) → (kind ≡ 0x84 → ⊥) → (kind ≡ 0x85 → ⊥)
+    → (kind ≡ 0x86 → ⊥) → (kind ≡ 0x87 → ⊥) → (kind ≡ 0x88 → ⊥) → (kind ≡ 0x89 → ⊥) → (kind ≡ 0x92 → ⊥) → true ≡ nestingRule (opOf kind) (blocksOf b values)
+unfolding opOf
+nested-anyway β kind values =
+    op-cases (λ (k : ℕ). (k ≡ 0x81 → ⊥) → (k ≡ 0x82 → ⊥) → (k ≡ 0x84 → ⊥) → (k ≡ 0x85 → ⊥) → (k ≡ 0x86 → ⊥) → (k ≡ 0x87 → ⊥) → (k ≡ 0x88 → ⊥) → (k ≡ 0x89 → ⊥) → (k ≡ 0x92 → ⊥)
+    → true ≡ nestingRule (opOf k) (blocksOf β values))
+    (λ a b c d e f g h i. absurd (a refl)) (λ a b c d e f g h i. absurd (b refl)) (λ a b c d e f g h i. refl)
+    (λ a b c d e f g h i. absurd (c refl)) (λ a b c d e f g h i. absurd (d refl)) (λ a b c d e f g h i. absurd (e refl))
+    (λ a b c d e f g h i. absurd (f refl)) (λ a b c d e f g h i. absurd (g refl)) (λ a b c d e f g h i. absurd (h refl))
+    (λ a b c d e f g h i. refl) (λ a b c d e f g h i. refl) (λ a b c d e f g h i. absurd (i refl))
+    (λ k plain _ _ _ a b c d e f g h i. rw plain refl) kind
+
+-- ---- What the code reads
+
+module _ (n : ℕ) where
+  pred : (n ≡ 0 → ⊥) → n ≡ suc (n - 1)
+  pred h = omega arith
+
+  module _ (codes : List ℕ) (lo hi : ℕ) where
+    pub no-code : n ≡ 0 → within lo hi 5 ≡ within lo hi (topCode codes n)
+    no-code z = rw z refl
+
+    pub top-code : (n ≡ 0 → ⊥) → within lo hi (getD codes (n - 1) 0) ≡ within lo hi (topCode codes n)
+    top-code h = ap (λ (m : ℕ). within lo hi (topCode codes m)) (sym (pred h))
+
+    module _ (w : Bool) (whole : w ≡ someCode lo hi codes n) where
+      pub code-found : (n ≡ 0 → ⊥) → within lo hi (getD codes (n - 1) 0) ≡ true → true ≡ w
+      code-found h t = sym (whole ∙ ap (someCode lo hi codes) (pred h) ∙ rw t)
+
+      pub code-on : (n ≡ 0 → ⊥) → within lo hi (getD codes (n - 1) 0) ≡ false → w ≡ someCode lo hi codes (n - 1)
+      code-on h t = whole ∙ ap (someCode lo hi codes) (pred h) ∙ rw t
+
+      pub code-end : n ≡ 0 → false ≡ w
+      code-end z = sym (whole ∙ rw z)
+
+  module _ (starts : List ℕ) (end : ℕ) where
+    pub no-start : n ≡ 0 → end ≡ topStart starts n end
+    no-start z = rw z refl
+
+    pub top-start : (n ≡ 0 → ⊥) → getD starts (n - 1) 0 ≡ topStart starts n end
+    top-start h = ap (λ (m : ℕ). topStart starts m end) (sym (pred h))
+
+    pub start-below : (codes : List ℕ) → (n ≡ 0 → ⊥) → Stacked codes starts n end → getD starts (n - 1) 0 ≤ end
+    start-below codes h s =
+        let t : Stacked codes starts (suc (n - 1)) end = subst (λ (m : ℕ). Stacked codes starts m end) (pred h) s in
+        t .1
+
+  module _ (ws : List ℕ) (from x : ℕ) (w : Bool) (whole : w ≡ some (eqb x) (newestFirst ws from n)) where
+    pub value-found : (n ≡ 0 → ⊥) → x ≡ getD ws (from + (n - 1)) 0 → true ≡ w
+    value-found h e = sym (whole ∙ ap (λ (m : ℕ). some (eqb x) (newestFirst ws from m)) (pred h) ∙ rw (eq-eqb x _ e))
+
+    pub value-on : (n ≡ 0 → ⊥) → (x ≡ getD ws (from + (n - 1)) 0 → ⊥) → w ≡ some (eqb x) (newestFirst ws from (n - 1))
+    value-on h e = whole ∙ ap (λ (m : ℕ). some (eqb x) (newestFirst ws from m)) (pred h) ∙ rw (ne-eqb x _ e)
+
+    pub value-end : n ≡ 0 → false ≡ w
+    value-end z = sym (whole ∙ rw z)
+
+-- ---- The rules of a SWITCH
+
+and-true : (a : Bool) → (a && true) ≡ a
+and-true true = refl
+and-true false = refl
+
+and-false : (a : Bool) → (a && false) ≡ false
+and-false true = refl
+and-false false = refl
+
+length-newest : (ws : List ℕ) (from n : ℕ) → length (newestFirst ws from n) ≡ n
+length-newest ws from zero = refl
+length-newest ws from (suc n) = ap suc (length-newest ws from n)
+
+-- What a rule asks of the innermost block, by its code.
+top-by : (f : Open → Bool) (g : ℕ → Bool) (codes starts values : List ℕ) (n end : ℕ) → Stacked codes starts n end
+    → let vs = newestFirst values (topStart starts n end) (end - topStart starts n end) in
+    g 5 ≡ false → g 0 ≡ f (openOf 0 vs) → g 1 ≡ f (openOf 1 vs) → g 2 ≡ f (openOf 2 vs) → g 3 ≡ f (openOf 3 vs) → g 4 ≡ f (openOf 4 vs)
+    → g (topCode codes n) ≡ innermost f (blocksIn codes starts values n end)
+top-by f g codes starts values zero end s z p0 p1 p2 p3 p4 = z
+top-by f g codes starts values (suc n) end s z p0 p1 p2 p3 p4 =
+    code-cases (λ (k : ℕ). g k ≡ f (openOf k (newestFirst values (getD starts n 0) (end - getD starts n 0)))) p0 p1 p2 p3 p4 (getD codes n 0) (s .0)
+
+module _ (b : Blocks) (sound : SoundBlocks b) (kind x : ℕ) (values : List ℕ) where
+  by-top : (f : Open → Bool) (g : ℕ → Bool) → g 5 ≡ false → g 0 ≡ f (openOf 0 (topValues b values)) → g 1 ≡ f (openOf 1 (topValues b values))
+      → g 2 ≡ f (openOf 2 (topValues b values)) → g 3 ≡ f (openOf 3 (topValues b values)) → g 4 ≡ f (openOf 4 (topValues b values))
+      → g (topCode (b .codes) (b .depth)) ≡ innermost f (blocksOf b values)
+  by-top f g = top-by f g (b .codes) (b .starts) values (b .depth) (b .held) (sound .stacked)
+
+  pub default-kept : (r : Bool) → kind ≡ 0x87 → r ≡ within 3 3 (topCode (b .codes) (b .depth)) → r ≡ switchRule (opOf kind) x (blocksOf b values)
+  unfolding opOf
+  default-kept r e q = rw e (q ∙ by-top (isSwitch (λ vs d. not d)) (within 3 3) refl refl refl refl refl refl)
+
+  module _ (start : ℕ) (starts : start ≡ topStart (b .starts) (b .depth) (b .held)) where
+    many : length (topValues b values) ≡ b .held - start
+    many = length-newest values _ (b .held - topStart (b .starts) (b .depth) (b .held)) ∙ ap (λ (s : ℕ). b .held - s) (sym starts)
+
+    pub endswitch-kept : (r : Bool) → kind ≡ 0x88 → r ≡ within 3 4 (topCode (b .codes) (b .depth))
+        → (r && not (eqb (b .held - start) 0)) ≡ switchRule (opOf kind) x (blocksOf b values)
+    unfolding opOf
+    endswitch-kept r e q =
+        rw (e, q)
+        (by-top (isSwitch (λ vs d. not (eqb (length vs) 0))) (λ k. within 3 4 k && not (eqb (b .held - start) 0)) refl refl refl refl
+        (ap (λ (m : ℕ). not (eqb m 0)) (sym many)) (ap (λ (m : ℕ). not (eqb m 0)) (sym many)))
+
+    pub case-kept : (r h : Bool) → kind ≡ 0x92 → r ≡ within 3 3 (topCode (b .codes) (b .depth)) → h ≡ some (eqb x) (newestFirst values start (b .held - start))
+        → (r && not h) ≡ switchRule (opOf kind) x (blocksOf b values)
+    unfolding opOf
+    case-kept r h e q s =
+        let v : h ≡ some (eqb x) (topValues b values) = s ∙ rw starts refl in
+        rw (e, q) (by-top (isSwitch (λ vs d. not (d || some (eqb x) vs))) (λ k. within 3 3 k && not h) refl refl refl refl (ap not v) refl)
+
+    pub others-kept : (r : Bool) → (kind ≡ 0x87 → ⊥) → (kind ≡ 0x88 → ⊥) → (kind ≡ 0x92 → ⊥) → r ≡ within 3 3 (topCode (b .codes) (b .depth))
+        → not (r && eqb (b .held - start) 0) ≡ switchRule (opOf kind) x (blocksOf b values)
+    unfolding opOf
+    others-kept r n87 n88 n92 q =
+        rw q
+        (ap not (by-top (isSwitch (λ vs d. eqb (length vs) 0 && not d)) (λ k. within 3 3 k && eqb (b .held - start) 0) refl refl refl refl
+        (sym (and-true (eqb (length (topValues b values)) 0) ∙ ap (λ (m : ℕ). eqb m 0) many)) (sym (and-false (eqb (length (topValues b values)) 0))))
+        ∙ plainly kind n87 n88 n92)
+        where
+      plainly : (k : ℕ) → (k ≡ 0x87 → ⊥) → (k ≡ 0x88 → ⊥) → (k ≡ 0x92 → ⊥) → not (innermost (isSwitch (λ vs d. eqb (length vs) 0 && not d)) (blocksOf b values)) ≡ switchRule (opOf k) x (blocksOf b values)
+      plainly =
+          op-cases (λ (k : ℕ). (k ≡ 0x87 → ⊥) → (k ≡ 0x88 → ⊥) → (k ≡ 0x92 → ⊥) → not (innermost (isSwitch (λ vs d. eqb (length vs) 0 && not d)) (blocksOf b values)) ≡ switchRule (opOf k) x (blocksOf b values))
+          (λ a b c. refl) (λ a b c. refl) (λ a b c. refl) (λ a b c. refl) (λ a b c. refl) (λ a b c. refl) (λ a b c. absurd (a refl))
+          (λ a b c. absurd (b refl)) (λ a b c. refl) (λ a b c. refl) (λ a b c. refl) (λ a b c. absurd (c refl)) (λ k plain _ _ _ a b c. rw plain refl)
+
+pub opens-by : (kind : ℕ) → (eqb kind 0x90 || eqb kind 0x83 || eqb kind 0x91) ≡ opens (opOf kind)
+unfolding opOf
+opens-by =
+    op-cases (λ (k : ℕ). (eqb k 0x90 || eqb k 0x83 || eqb k 0x91) ≡ opens (opOf k)) refl refl refl refl refl refl refl refl refl refl refl refl
+    (λ k plain loop uif switch. rw (plain, loop, uif, switch))

@@ -1,0 +1,238 @@
+-- The walk over the records: what is left to check from a place on is the whole check, and each way out of a turn is one law.
+-- Assumes nothing.
+use mathlib.Core.Path.{_≡_, refl, sym, ap, _∙_, subst}
+use mathlib.Core.Bool.{Bool, true, false, cond, not, _&&_, _||_}
+use mathlib.Core.List.{List, [], _∷_, _++_}
+use Prim.Native.Nat.{ℕ, zero, suc, _+_, _-_, _*_, _<_, _≤_}
+use native.Mathlib.Omega.{arith}
+use lib.Dec.{eqb, leb, ltb, eqb·suc-zero}
+use lib.ListN.{length, getD, take, replicate, take-append-drop}
+use borrow.Author.Tests.{lt-ltb, le-ltb, lt-leb, leb-false, eq-eqb, ne-eqb, eqb-false, not-true}
+use Rattle.format.specs.Kinds.{lengthOf}
+use Rattle.format.specs.Records.{longest, sizeAt}
+use Rattle.format.specs.Fields.{caseWord}
+use Rattle.format.proofs.Walk.{size-fits}
+use Rattle.blocks.specs.Control.{opOf}
+use Rattle.blocks.specs.Nesting.{Open, Ruling, goes, rule}
+use Rattle.blocks.specs.Nesting as nesting
+use Rattle.checker.specs.Rules.{operandRules}
+use Rattle.checker.specs.Findings.{Seen, nothing, Finding, taken, due, operandsFound, nested, withInstruction, declarationFinding, immediateFinding, instructionFinding, recordFinding}
+use Rattle.checker.specs.Check.{Outcome, accepted, refused, onward, walk, checkOf, breaks, told, toldOf, programSeen, concluded, outcome, wordsAfter}
+use Rattle.checker.specs.Held.{blocksOf, Padded, seen, endOf, Tells, Turned}
+use Rattle.checker.specs.declared.Checked.{Checked}
+use Rattle.checker.specs.declared.Verdict.{Verdict}
+use Rattle.checker.specs.declared.Verdict.the-variants.{Accepted, Refused}
+use Rattle.checker.specs.declared.program.Program.{Program}
+use Rattle.checker.specs.declared.walk.State.{State}
+use Rattle.checker.specs.declared.walk.Turn.{Turn}
+use Rattle.checker.specs.declared.walk.Way.the-variants.{On, Ended}
+use Rattle.checker.proofs.Keeping.{count-words}
+
+-- ---- A record that is taken
+
+due-not-taken : {A : Type 0} {n : ℕ} {u : Seen} → due n ≡ taken u → A
+due-not-taken e = let z : _≡_ {A = ℕ} 0 1 = cc in absurd (omega arith)
+
+-- A refusal that is not due lets the rest of the chain be taken.
+past-due : (t : Bool) (n : ℕ) (f : Finding) (u : Seen) → cond t (due n) f ≡ taken u → (t ≡ false) × (f ≡ taken u)
+past-due true n f u e = due-not-taken e
+past-due false n f u e = (refl, e)
+
+module _ (s : Seen) (file : List ℕ) (at : ℕ) (u : Seen) (found : recordFinding s file at ≡ taken u) where
+  sized-chain : (eqb (sizeAt file at) 0 ≡ false)
+      × (cond (eqb (getD file at 0) 0x01) (declarationFinding s file at) (cond (eqb (getD file at 0) 0x02) (immediateFinding s file at) (instructionFinding s file at)) ≡ taken u)
+  unfolding recordFinding
+  sized-chain = past-due (eqb (sizeAt file at) 0) 4 _ u (past-due (eqb (lengthOf (getD file at 0)) 255) 3 _ u found .1)
+
+  pub taken-whole : sizeAt file at ≡ 0 → ⊥
+  taken-whole = eqb-false (sizeAt file at) 0 (sized-chain .0)
+
+  pub taken-declaration : getD file at 0 ≡ 1 → declarationFinding s file at ≡ taken u
+  taken-declaration e = rw (eq-eqb _ _ e) at (sized-chain .1)
+
+  pub taken-immediate : getD file at 0 ≡ 2 → immediateFinding s file at ≡ taken u
+  taken-immediate e = rw e at (sized-chain .1)
+
+  pub taken-instruction : (getD file at 0 ≡ 1 → ⊥) → (getD file at 0 ≡ 2 → ⊥) → instructionFinding s file at ≡ taken u
+  taken-instruction n1 n2 = rw (ne-eqb _ _ n1, ne-eqb _ _ n2) at (sized-chain .1)
+
+-- An instruction that is taken: there were fewer than 1,024, and the rule lets it pass.
+pub record Passed (s : Seen) (file : List ℕ) (at : ℕ) (u : Seen) : Type 0 where
+  pub few : s .instructions < 1024
+  pub blocks : List Open
+  pub rules : rule (opOf (getD file at 0)) (caseWord (s .immediates) file at) (s .blocks) ≡ goes blocks
+  pub after : u ≡ withInstruction s blocks
+
+passed-by : (s : Seen) (r : Ruling) (u : Seen) → nested s r ≡ taken u → (σ : List Open) × (r ≡ goes σ) × (u ≡ withInstruction s σ)
+passed-by s (goes σ) u e = (σ, refl, cc)
+passed-by s (nesting.refused n) u e = due-not-taken e
+
+pub passed : (s : Seen) (file : List ℕ) (at : ℕ) (u : Seen) → instructionFinding s file at ≡ taken u → Passed s file at u
+unfolding instructionFinding
+passed s file at u e =
+    let a = past-due (leb 1024 (s .instructions)) 6 _ u e in
+    let b = past-due (not (operandRules (getD file at 0) file at)) 7 _ u (a .1) in
+    let c = past-due (not (operandsFound (getD file at 0) (s .declared) (length (s .immediates)) file at)) 9 _ u (b .1) in
+    let d = passed-by s (rule (opOf (getD file at 0)) (caseWord (s .immediates) file at) (s .blocks)) u (c .1) in
+    record { few = leb-false 1024 (s .instructions) (a .0); blocks = d .0; rules = d .1; after = d .2 }
+
+end-rule : (x : ℕ) (σ τ : List Open) → rule (opOf 0x89) x σ ≡ goes τ → τ ≡ []
+unfolding opOf
+end-rule x [] τ e = cc
+end-rule x (o ∷ σ) τ e =
+    let f : nesting.refused 10 ≡ goes τ = rw (eqb·suc-zero (length σ)) at e in
+    let z : _≡_ {A = ℕ} 0 1 = cc in
+    absurd (omega arith)
+
+-- After END no block is open.
+pub end-closed : (s : Seen) (file : List ℕ) (at : ℕ) (u : Seen) → recordFinding s file at ≡ taken u → getD file at 0 ≡ 0x89 → u .blocks ≡ []
+unfolding withInstruction
+end-closed s file at u found e =
+    let p : Passed s file at u = passed s file at u (taken-instruction s file at u found (λ q. omega arith) (λ q. omega arith)) in
+    let r : rule (opOf 0x89) (caseWord (s .immediates) file at) (s .blocks) ≡ goes (p .blocks) =
+        subst (λ (k : ℕ). rule (opOf k) (caseWord (s .immediates) file at) (s .blocks) ≡ goes (p .blocks)) e (p .rules)
+    in
+    ap (λ (v : Seen). v .blocks) (p .after) ∙ end-rule _ (s .blocks) (p .blocks) r
+
+-- ---- A turn of the walk
+
+module _ (s : Seen) (file : List ℕ) (at m : ℕ) (t : State) (words values : List ℕ) (found : cond (eqb m 0) (taken (seen t words values)) (due m) ≡ recordFinding s file at) where
+  pub turn-refused : (rest : Seen → Outcome) → (m ≡ 0 → ⊥) → refused m at ≡ onward (recordFinding s file at) file at rest
+  turn-refused rest z = rw (← found, ne-eqb m 0 z)
+
+  module _ (z : m ≡ 0) where
+    is-taken : recordFinding s file at ≡ taken (seen t words values)
+    is-taken = sym (rw (eq-eqb m 0 z) at found)
+
+    pub turn-whole : sizeAt file at ≡ 0 → ⊥
+    turn-whole = taken-whole s file at (seen t words values) is-taken
+
+    module _ (kind : ℕ) (here : kind ≡ getD file at 0) (rest : Seen → Outcome) where
+      on-by : (kind ≡ 0x89 → ⊥) → rest (seen t words values) ≡ onward (recordFinding s file at) file at rest
+      on-by e = rw (is-taken, ← here, ne-eqb kind 0x89 e)
+
+      -- At END no block is open.
+      pub turn-ends : (v : Verdict) → v ≡ endOf (t .program .instructions) at (length file) → kind ≡ 0x89
+          → concluded v (programSeen (t .program) words []) ≡ onward (recordFinding s file at) file at rest
+      unfolding seen endOf
+      turn-ends v q e = rw (q, is-taken, ← here, eq-eqb kind 0x89 e) (by (ltb (at + 1) (length file))) where
+        closed : blocksOf (t .blocks) values ≡ []
+        closed = end-closed s file at (seen t words values) is-taken (sym here ∙ e)
+
+        by : (b : Bool) → concluded (cond b (Refused 2 (at + 1)) (Accepted (t .program .instructions))) (programSeen (t .program) words []) ≡ cond b (refused 2 (at + 1)) (accepted (seen t words values))
+        by true = refl
+        by false = ap (λ (σ : List Open). accepted (programSeen (t .program) words σ)) (sym closed)
+
+pub turn-on : (rest : Seen → Outcome) (s : Seen) (file : List ℕ) (at m : ℕ) (t : State) (words values : List ℕ)
+    → cond (eqb m 0) (taken (seen t words values)) (due m) ≡ recordFinding s file at
+    → m ≡ 0
+    → (kind : ℕ) → kind ≡ getD file at 0 → (kind ≡ 0x89 → ⊥) → rest (seen t words values) ≡ onward (recordFinding s file at) file at rest
+turn-on rest s file at m t words values found z kind here e = on-by s file at m t words values found z kind here rest e
+
+module _ (n at end : ℕ) where
+  pub end-follows : at + 1 < end → Refused 2 (at + 1) ≡ endOf n at end
+  unfolding endOf
+  end-follows h = rw (lt-ltb (at + 1) end h)
+
+  pub end-last : end ≤ at + 1 → Accepted n ≡ endOf n at end
+  unfolding endOf
+  end-last h = rw (le-ltb (at + 1) end h)
+
+pub not-on : {A : Type 0} {v : Verdict} → Ended v ≡ On → A
+not-on e = let z : _≡_ {A = ℕ} 0 1 = cc in absurd (omega arith)
+
+-- What is told goes by the outcome.
+pub tells : (v : Verdict) (file words : List ℕ) (p : Program) → Tells v (p .instructions) → concluded v (programSeen p words []) ≡ checkOf file → told v ≡ toldOf (checkOf file)
+tells (Accepted n) file words p h e = rw h (ap toldOf e)
+tells (Refused n q) file words p h e = ap toldOf e
+
+pub end-tells : (v : Verdict) (n at end : ℕ) → v ≡ endOf n at end → Tells v n
+unfolding endOf
+end-tells v n at end e = rw e (by (ltb (at + 1) end)) where
+  by : (b : Bool) → Tells (cond b (Refused 2 (at + 1)) (Accepted n)) n
+  by true = tt
+  by false = refl
+
+-- ---- The walk
+
+-- What is left from a place on is the whole check.
+pub record Going (file : List ℕ) (at : ℕ) (s : Seen) : Type 0 where
+  pub left : ℕ
+  pub enough : length file ≤ at + left
+  pub whole : walk left file at s ≡ checkOf file
+
+pub check-long : (file : List ℕ) → longest < length file → refused 1 0 ≡ checkOf file
+unfolding checkOf
+check-long file h = rw (lt-ltb longest (length file) h)
+
+pub check-long-told : (file : List ℕ) → longest < length file → breaks 1 0 ≡ toldOf (checkOf file)
+check-long-told file h = ap toldOf (check-long file h)
+
+pub check-start : (file : List ℕ) (s : Seen) → s ≡ nothing → length file ≤ longest → Going file 0 s
+unfolding checkOf
+check-start file s e h = record { left = length file; enough = omega arith; whole = rw (e, le-ltb longest (length file) h) }
+
+module _ (file : List ℕ) (at : ℕ) (s : Seen) (going : Going file at s) where
+  walk-past : (k : ℕ) → length file ≤ at → walk k file at s ≡ refused 13 (length file)
+  unfolding walk
+  walk-past zero h = refl
+  walk-past (suc k) h = rw (le-ltb at (length file) h)
+
+  pub walk-end : length file ≤ at → refused 13 (length file) ≡ checkOf file
+  walk-end h = sym (walk-past (going .left) h) ∙ going .whole
+
+  pub walk-end-told : length file ≤ at → breaks 13 (length file) ≡ toldOf (checkOf file)
+  walk-end-told h = ap toldOf (walk-end h)
+
+  module _ (h : at < length file) where
+    by-turn : onward (recordFinding s file at) file at (λ u. walk (going .left - 1) file (at + sizeAt file at) u) ≡ checkOf file
+    unfolding walk
+    by-turn =
+        let l = going .enough in
+        let t : going .left ≡ suc (going .left - 1) = omega arith in
+        sym (ap (λ (n : ℕ). walk n file at s) t ∙ rw (lt-ltb at (length file) h)) ∙ going .whole
+
+    module _ (t : Turn) (words values : List ℕ) (turned : Turned s file at t words values) where
+      pub walk-stops : (v : Verdict) → t .way ≡ Ended v → concluded v (programSeen (t .state .program) words []) ≡ checkOf file
+      walk-stops v e =
+          let f : concluded v (programSeen (t .state .program) words []) ≡ _ = rw e at (turned .leads (λ u. walk (going .left - 1) file (at + sizeAt file at) u)) in
+          f ∙ by-turn
+
+      pub walk-tells : (v : Verdict) → t .way ≡ Ended v → told v ≡ toldOf (checkOf file)
+      walk-tells v e = tells v file words (t .state .program) (rw e at (turned .tells)) (walk-stops v e)
+
+      module _ (size : ℕ) (n : size ≡ sizeAt file at) (e : t .way ≡ On) where
+        pub walk-goes : Going file (at + size) (seen (t .state) words values)
+        walk-goes =
+            let l = going .enough in
+            let w = turned .whole e in
+            record {
+              left = going .left - 1;
+              enough = omega arith;
+              whole = rw n ((rw e at (turned .leads (λ u. walk (going .left - 1) file (at + sizeAt file at) u))) ∙ by-turn);
+            }
+
+        -- Less of the file is left.
+        pub walk-less : length file - (at + size) < length file - at
+        walk-less = let w = turned .whole e in omega arith
+
+-- ---- The lent words
+
+module _ (r : Checked) (words old file : List ℕ) (found : outcome r words ≡ checkOf file) where
+  pub lent-accepted : (n : ℕ) → r .verdict ≡ Accepted n → Padded (r .program .immediates) words → r .program .immediates ≤ 256 → words ≡ wordsAfter (checkOf file) old
+  lent-accepted n e padded few =
+      let k : length (take (4 * r .program .immediates) words) ≡ 4 * r .program .immediates = count-words words (r .program .immediates) few padded in
+      let f : accepted (programSeen (r .program) words []) ≡ checkOf file = rw e at found in
+      sym (take-append-drop (4 * r .program .immediates) words)
+      ∙ ap (λ (l : List ℕ). take (4 * r .program .immediates) words ++ l) (padded .rest ∙ ap (λ (m : ℕ). replicate (1024 - m) 0) (sym k))
+      ∙ ap (λ (o : Outcome). wordsAfter o old) f
+
+  module _ (number place : ℕ) (e : r .verdict ≡ Refused number place) where
+    refusal : refused number place ≡ checkOf file
+    refusal = rw e at found
+
+    pub lent-refused : old ≡ wordsAfter (checkOf file) old
+    lent-refused = ap (λ (o : Outcome). wordsAfter o old) refusal
+
+    pub found-refused : outcome r old ≡ checkOf file
+    found-refused = rw e refusal

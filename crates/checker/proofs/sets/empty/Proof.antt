@@ -1,0 +1,12 @@
+-- Words that are 0 have no bit set.
+use borrow.Author.Needs.{needs}
+use mathlib.Core.Path.{refl}
+use Rattle.checker.proofs.Files.{no-bits}
+use Rattle.checker.proofs.sets.empty.Statement.{statement}
+use Rattle.checker.proofs.sets.empty.Tie as tie
+
+pub empty-spec : {M : Type 1} → statement M
+empty-spec =
+    tie.close
+    (tie.spec
+    (λ c. no-bits _ refl refl refl refl refl refl))

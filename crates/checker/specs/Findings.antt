@@ -1,0 +1,156 @@
+-- What has been seen of a program, and what is found of its next record: it is taken, or the lowest number of a refusal that
+-- applies to it is due.
+-- Assumes nothing.
+use Prim.Native.Nat.{ℕ, _+_, _-_, _*_, max}
+use mathlib.Core.List.{List, [], _∷_, _++_}
+use mathlib.Core.Bool.{Bool, cond, not, _&&_, _||_}
+use lib.Dec.{eqb, leb, ltb}
+use lib.ListN.{length, getD}
+use Rattle.format.specs.Kinds.{lengthOf}
+use Rattle.format.specs.Records.{sizeAt}
+use Rattle.format.specs.Fields.{word32, declarationAt, caseWord}
+use Rattle.format.specs.declared.fields.Destination.{Destination}
+use Rattle.format.specs.declared.fields.Source.{Source}
+use Rattle.format.specs.declared.fields.Declaration.{Declaration}
+use Rattle.blocks.specs.Control.{opOf}
+use Rattle.blocks.specs.Nesting.{Open, Ruling, goes, refused, rule}
+use Rattle.checker.specs.Sets.{Registers, none, withRange, anyOf, registersOf, CONST, IN, ADDR, IMM, MEM}
+use Rattle.checker.specs.Rules.{indirect, memoryKind, allOperands, operandRules, declarationRule}
+
+-- What has been seen so far: the declared registers; the immediates' words in order, four each; one more than the highest
+-- declared IN and CONST, 0 for none; where the instructions begin, which is after the last declaration or immediate; how many
+-- instructions there were; and the open blocks, the innermost first.
+pub record Seen : Type 0 where
+  pub declared : Registers
+  pub immediates : List ℕ
+  pub inputs : ℕ
+  pub constants : ℕ
+  pub start : ℕ
+  pub instructions : ℕ
+  pub blocks : List Open
+
+abbrev pub nothing : Seen
+nothing =
+    record { declared = none; immediates = []; inputs = 0; constants = 0; start = 0; instructions = 0; blocks = [] }
+
+pub data Finding : Type 0 where
+  taken : Seen → Finding
+  due : ℕ → Finding
+
+-- "1,025th instruction or 257th immediate"
+abbrev pub mostInstructions : ℕ
+mostInstructions = 1024
+
+abbrev pub mostImmediates : ℕ
+mostImmediates = 256
+
+-- ---- Declarations and immediates
+
+-- One more than the highest declared register of file f, after declaration d.
+abbrev pub reach : ℕ → Declaration → ℕ → ℕ
+reach f d before = cond (eqb (d .file) f) (max before (d .last + 1)) before
+
+unfoldable pub withDeclaration : Seen → Declaration → ℕ → Seen
+withDeclaration s d next =
+    record {
+      declared = withRange (s .declared) (d .file) (d .first) (d .last);
+      immediates = s .immediates;
+      inputs = reach IN d (s .inputs);
+      constants = reach CONST d (s .constants);
+      start = next;
+      instructions = s .instructions;
+      blocks = s .blocks;
+    }
+
+-- "declaration overlaps an earlier one of its file"
+abbrev pub overlaps : Registers → Declaration → Bool
+overlaps declared d = anyOf (declared (d .file)) (d .first) (d .last + 1 - d .first)
+
+unfoldable pub declarationFinding : Seen → List ℕ → ℕ → Finding
+declarationFinding s file at =
+    let d : Declaration = declarationAt file (at + 1) in
+    cond (ltb 0 (s .instructions)) (due 5)
+    (cond (not (declarationRule d)) (due 7)
+    (cond (overlaps (s .declared) d) (due 8)
+    (taken (withDeclaration s d (at + sizeAt file at)))))
+
+-- "immediate: four words", which stand from place p on.
+abbrev pub immediateAt : List ℕ → ℕ → List ℕ
+immediateAt file p = word32 file p ∷ word32 file (p + 4) ∷ word32 file (p + 8) ∷ word32 file (p + 12) ∷ []
+
+unfoldable pub withImmediate : Seen → List ℕ → ℕ → Seen
+withImmediate s file at =
+    record {
+      declared = s .declared;
+      immediates = s .immediates ++ immediateAt file (at + 1);
+      inputs = s .inputs;
+      constants = s .constants;
+      start = at + sizeAt file at;
+      instructions = s .instructions;
+      blocks = s .blocks;
+    }
+
+unfoldable pub immediateFinding : Seen → List ℕ → ℕ → Finding
+immediateFinding s file at =
+    cond (ltb 0 (s .instructions)) (due 5)
+    (cond (leb (4 * mostImmediates) (length (s .immediates))) (due 6)
+    (taken (withImmediate s file at)))
+
+-- ---- Instructions
+
+-- "direct operand not declared, or no such immediate", the immediates having so many words
+abbrev pub directFound : Registers → ℕ → ℕ → ℕ → Bool
+directFound declared words f i = cond (eqb f IMM) (ltb (4 * i) words) (declared f i)
+
+-- "indirect with ADDR or the whole file undeclared"
+abbrev pub indirectFound : Registers → ℕ → Bool
+indirectFound declared f = declared ADDR 0 && anyOf (declared f) 0 (registersOf f)
+
+abbrev pub destinationFound : Registers → Destination → Bool
+destinationFound declared d = declared (d .file) (d .index)
+
+unfoldable pub sourceFound : Registers → ℕ → Source → Bool
+sourceFound declared words s =
+    cond (indirect s) (indirectFound declared (s .file)) (directFound declared words (s .file) (s .index))
+
+-- Where this fails an instruction is refused with 9, "memory kind without MEM" too.
+unfoldable pub operandsFound : ℕ → Registers → ℕ → List ℕ → ℕ → Bool
+operandsFound kind declared words file at =
+    allOperands kind (destinationFound declared) (sourceFound declared words) file at
+    && (not (memoryKind kind) || declared MEM 0)
+
+unfoldable pub withInstruction : Seen → List Open → Seen
+withInstruction s blocks =
+    record {
+      declared = s .declared;
+      immediates = s .immediates;
+      inputs = s .inputs;
+      constants = s .constants;
+      start = s .start;
+      instructions = s .instructions + 1;
+      blocks = blocks;
+    }
+
+-- 10, 11 and 12 are what the rule of the blocks says.
+abbrev pub nested : Seen → Ruling → Finding
+nested s (goes blocks) = taken (withInstruction s blocks)
+nested s (refused number) = due number
+
+unfoldable pub instructionFinding : Seen → List ℕ → ℕ → Finding
+instructionFinding s file at =
+    let kind : ℕ = getD file at 0 in
+    cond (leb mostInstructions (s .instructions)) (due 6)
+    (cond (not (operandRules kind file at)) (due 7)
+    (cond (not (operandsFound kind (s .declared) (length (s .immediates)) file at)) (due 9)
+    (nested s (rule (opOf kind) (caseWord (s .immediates) file at) (s .blocks)))))
+
+-- ---- Any record
+
+-- "3: unknown kind. 4: body runs past the file." Each later number is that of one of the three forms.
+unfoldable pub recordFinding : Seen → List ℕ → ℕ → Finding
+recordFinding s file at =
+    cond (eqb (lengthOf (getD file at 0)) 255) (due 3)
+    (cond (eqb (sizeAt file at) 0) (due 4)
+    (cond (eqb (getD file at 0) 0x01) (declarationFinding s file at)
+    (cond (eqb (getD file at 0) 0x02) (immediateFinding s file at)
+    (instructionFinding s file at))))

@@ -1,0 +1,5 @@
+pub mod Sets
+pub mod Rules
+pub mod Findings
+pub mod Check
+pub mod Held

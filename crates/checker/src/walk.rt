@@ -1,0 +1,280 @@
+// The walk over the records: each is taken, or refused with the lowest number that applies.
+use crate::Checked;
+use crate::Verdict;
+use crate::nesting;
+use crate::nesting::Blocks;
+use crate::nesting::Nested;
+use crate::operands;
+use crate::program;
+use crate::program::Program;
+use crate::sets;
+ghost use mathlib.Core.Path.{_≡_};
+ghost use mathlib.Core.List.{List};
+ghost use Prim.Native.Nat.{ℕ, _+_, _*_, _<_, _≤_};
+ghost use lib.ListN.{length, take};
+ghost use Rattle.format.specs.Records.{sizeAt};
+ghost use Rattle.format.specs.Fields.{caseWord};
+ghost use Rattle.blocks.specs.Control.{opOf};
+ghost use Rattle.blocks.specs.Nesting.{rule};
+ghost use Rattle.checker.specs.Findings.{nothing, nested, declarationFinding, immediateFinding, instructionFinding, recordFinding};
+ghost use Rattle.checker.specs.Check.{checkOf, told, toldOf, outcome};
+ghost use Rattle.checker.specs.Held.{blocksOf, seen, findingOf, operandRefusal, takenOf, endOf, Turned, Sound, Padded};
+
+// What the checker knows after some records.
+pub struct State {
+    pub program: Program,
+    pub blocks: Blocks,
+}
+
+// What is found of a record: the number of the refusal, or 0 and the state after it.
+pub struct Taken {
+    pub refusal: u8,
+    pub state: State,
+}
+
+// How the walk goes on after a record: to the next record, or not.
+pub enum Way {
+    On,
+    Ended(Verdict),
+}
+
+// The state after a record, and how the walk goes on.
+pub struct Turn {
+    pub state: State,
+    pub way: Way,
+}
+
+const MOST_INSTRUCTIONS: u32 = 1024;
+
+const MOST_IMMEDIATES: u32 = 256;
+
+const END: u8 = 0x89;
+
+// The declaration at a place, which is followed by the place `next`.
+fn declaration(s: State, file: &[u8], at: usize, next: usize) -> Taken
+    requires { ⌜ Sound s × (at ≤ 65536) × (next ≤ 65536) × (next ≡ at + sizeAt (now file) at) ⌝ }
+    ensures found { λ r. ⌜ ((words : List ℕ) (values : List ℕ) → findingOf r words values ≡ declarationFinding (seen s words values) (now (file .entry)) at) ⌝ }
+    ensures sound { λ r. ⌜ Sound (r .state) × (r .state .program .immediates ≡ s .program .immediates) ⌝ }
+{
+    let p = s.program;
+    if 0 < p.instructions {
+        return Taken { refusal: 5, state: s };
+    }
+    let d = format::fields::declaration_at(file, at + 1);
+    if !operands::declaration_allowed(d) {
+        return Taken { refusal: 7, state: s };
+    }
+    let declared = p.declared;
+    if sets::is_any_declared(declared, d.file, d.first as usize, d.last as usize) {
+        return Taken { refusal: 8, state: s };
+    }
+    let mut t = s;
+    t.program = program::with_declaration(p, d, next);
+    Taken {
+        refusal: 0,
+        state: t,
+    }
+}
+
+// The immediate at a place, which is followed by the place `next`.
+fn immediate(s: State, file: &[u8], at: usize, next: usize, words: &mut [u32]) -> Taken
+    requires { ⌜ Sound s × (at ≤ 65536) × (next ≤ 65536) × (next ≡ at + sizeAt (now file) at) × Padded (s .program .immediates) (now words) ⌝ }
+    ensures found { λ r. ⌜ ((values : List ℕ) → findingOf r (now (words .exit)) values ≡ immediateFinding (seen s (now (words .entry)) values) (now (file .entry)) at) ⌝ }
+    ensures sound { λ r. ⌜ Sound (r .state) × Padded (r .state .program .immediates) (now (words .exit)) ⌝ }
+{
+    let p = s.program;
+    if 0 < p.instructions {
+        return Taken { refusal: 5, state: s };
+    }
+    if MOST_IMMEDIATES <= p.immediates {
+        return Taken { refusal: 6, state: s };
+    }
+    let mut t = s;
+    t.program = program::with_immediate(p, file, at, next, words);
+    Taken {
+        refusal: 0,
+        state: t,
+    }
+}
+
+// The lowest of 6, 7 and 9 that applies to an instruction of a kind at a place, 0 for none.
+fn operand_refusal(p: Program, kind: u8, file: &[u8], at: usize) -> u8
+    requires { ⌜ (at ≤ 65536) × (p .immediates ≤ 256) ⌝ }
+    ensures { λ r. ⌜ r ≡ operandRefusal p kind (now (file .entry)) at ⌝ }
+{
+    if MOST_INSTRUCTIONS <= p.instructions {
+        return 6;
+    }
+    if !operands::rules_kept(kind, file, at) {
+        return 7;
+    }
+    let declared = p.declared;
+    if !operands::operands_found(kind, declared, 4 * p.immediates as usize, file, at) {
+        return 9;
+    }
+    0
+}
+
+// The word of the CASE at a place, of n immediates that stand first among the words.
+fn word_of(n: u32, words: &[u32], file: &[u8], at: usize) -> u32
+    requires { ⌜ (n ≤ 256) × Padded n (now words) ⌝ }
+    ensures { λ r. ⌜ r ≡ caseWord (take (4 * n) (now (words .entry))) (now (file .entry)) at ⌝ }
+{
+    let end = 4 * n as usize;
+    format::fields::case_word(&words[..end], file, at)
+}
+
+// The state after an instruction that the rules of nesting let pass, or their refusal.
+fn after_nesting(s: State, n: Nested) -> Taken
+    requires { ⌜ s .program .instructions < 1024 ⌝ }
+    ensures { λ r. ⌜ r ≡ takenOf s n ⌝ }
+{
+    if n.refusal != 0 {
+        return Taken {
+            refusal: n.refusal,
+            state: s,
+        };
+    }
+    let mut t = s;
+    let mut p = s.program;
+    p.instructions = p.instructions + 1;
+    t.program = p;
+    let blocks = n.blocks;
+    t.blocks = blocks;
+    Taken {
+        refusal: 0,
+        state: t,
+    }
+}
+
+// An instruction of a kind to which none of 6, 7 and 9 applies; for a CASE x is its word.
+fn nested_instruction(s: State, values: &mut [u32], kind: u8, x: u32) -> Taken
+    requires { ⌜ Sound s × (s .program .instructions < 1024) × (length (now values) ≡ 1024) ⌝ }
+    ensures found { λ r. ⌜ ((words : List ℕ) → findingOf r words (now (values .exit)) ≡ nested (seen s words (now (values .entry))) (rule (opOf kind) x (blocksOf (s .blocks) (now (values .entry))))) ⌝ }
+    ensures sound { λ r. ⌜ Sound (r .state) × (r .state .program .immediates ≡ s .program .immediates) ⌝ }
+{
+    let blocks = s.blocks;
+    after_nesting(s, nesting::nest(blocks, values, kind, x))
+}
+
+// The instruction at a place.
+fn instruction(s: State, file: &[u8], at: usize, words: &[u32], values: &mut [u32]) -> Taken
+    requires { ⌜ Sound s × (at ≤ 65536) × Padded (s .program .immediates) (now words) × (length (now values) ≡ 1024) ⌝ }
+    ensures found { λ r. ⌜ findingOf r (now (words .entry)) (now (values .exit)) ≡ instructionFinding (seen s (now (words .entry)) (now (values .entry))) (now (file .entry)) at ⌝ }
+    ensures sound { λ r. ⌜ Sound (r .state) × (r .state .program .immediates ≡ s .program .immediates) ⌝ }
+{
+    let p = s.program;
+    let kind = format::fields::byte_at(file, at);
+    let number = operand_refusal(p, kind, file, at);
+    if number != 0 {
+        return Taken {
+            refusal: number,
+            state: s,
+        };
+    }
+    let word = word_of(p.immediates, words, file, at);
+    nested_instruction(s, values, kind, word)
+}
+
+// The record at a place.
+fn record(s: State, file: &[u8], at: usize, words: &mut [u32], values: &mut [u32]) -> Taken
+    requires { ⌜ Sound s × (at ≤ length (now file)) × (length (now file) ≤ 65536) × Padded (s .program .immediates) (now words) × (length (now values) ≡ 1024) ⌝ }
+    ensures found { λ r. ⌜ findingOf r (now (words .exit)) (now (values .exit)) ≡ recordFinding (seen s (now (words .entry)) (now (values .entry))) (now (file .entry)) at ⌝ }
+    ensures sound { λ r. ⌜ Sound (r .state) × Padded (r .state .program .immediates) (now (words .exit)) ⌝ }
+{
+    let kind = format::fields::byte_at(file, at);
+    if format::kinds::body_length(kind) == format::kinds::UNKNOWN {
+        return Taken { refusal: 3, state: s };
+    }
+    let size = format::records::size_at(file, at);
+    if size == 0 {
+        return Taken { refusal: 4, state: s };
+    }
+    match kind {
+        1 => declaration(s, file, at, at + size),
+        2 => immediate(s, file, at, at + size, words),
+        _ => instruction(s, file, at, words, values),
+    }
+}
+
+// Nothing has been seen.
+fn started() -> State
+    ensures { λ r. ⌜ ((words : List ℕ) (values : List ℕ) → seen r words values ≡ nothing) × Sound r × (r .program .immediates ≡ 0) ⌝ }
+{
+    State {
+        program: program::unseen(),
+        blocks: nesting::none_open(),
+    }
+}
+
+// What an END at a place comes to that no rule refuses, in a file of this length.
+fn end_verdict(instructions: u32, at: usize, end: usize) -> Verdict
+    requires { ⌜ at < 65536 ⌝ }
+    ensures { λ r. ⌜ r ≡ endOf instructions at end ⌝ }
+{
+    if at + 1 < end {
+        return Verdict::Refused(2, at as u32 + 1);
+    }
+    Verdict::Accepted(instructions)
+}
+
+// The record at a place, and how the walk goes on after it.
+fn take_turn(s: State, file: &[u8], at: usize, words: &mut [u32], values: &mut [u32]) -> Turn
+    requires { ⌜ Sound s × (at < length (now file)) × (length (now file) ≤ 65536) × Padded (s .program .immediates) (now words) × (length (now values) ≡ 1024) ⌝ }
+    ensures turned { λ r. ⌜ Turned (seen s (now (words .entry)) (now (values .entry))) (now (file .entry)) at r (now (words .exit)) (now (values .exit)) ⌝ }
+    ensures sound { λ r. ⌜ Sound (r .state) × Padded (r .state .program .immediates) (now (words .exit)) ⌝ }
+{
+    let taken = record(s, file, at, words, values);
+    let state = taken.state;
+    if taken.refusal != 0 {
+        return Turn {
+            state,
+            way: Way::Ended(Verdict::Refused(taken.refusal, at as u32)),
+        };
+    }
+    if format::fields::byte_at(file, at) != END {
+        return Turn {
+            state,
+            way: Way::On,
+        };
+    }
+    let program = taken.state.program;
+    let verdict = end_verdict(program.instructions, at, file.len());
+    Turn {
+        state,
+        way: Way::Ended(verdict),
+    }
+}
+
+// The whole check. The immediates' words go to the first of `words`, which are 0 before; `values` holds the words of CASEs.
+pub fn walk(file: &[u8], words: &mut [u32], values: &mut [u32]) -> Checked
+    requires { ⌜ Padded 0 (now words) × (length (now values) ≡ 1024) ⌝ }
+    ensures found { λ r. ⌜ outcome r (now (words .exit)) ≡ checkOf (now (file .entry)) ⌝ }
+    ensures told { λ r. ⌜ told (r .verdict) ≡ toldOf (checkOf (now (file .entry))) ⌝ }
+    ensures padded { λ r. ⌜ Padded (r .program .immediates) (now (words .exit)) × (r .program .immediates ≤ 256) ⌝ }
+{
+    let end = file.len();
+    if format::records::LONGEST < end {
+        return Checked {
+            verdict: Verdict::Refused(1, 0),
+            program: program::unseen(),
+        };
+    }
+    let mut s = started();
+    let mut at: usize = 0;
+    while at < end {
+        let turn = take_turn(s, file, at, words, values);
+        s = turn.state;
+        let way = turn.way;
+        if let Way::Ended(verdict) = way {
+            let program = s.program;
+            return Checked { verdict, program };
+        }
+        at += format::records::size_at(file, at);
+    }
+    let program = s.program;
+    Checked {
+        verdict: Verdict::Refused(13, end as u32),
+        program,
+    }
+}
