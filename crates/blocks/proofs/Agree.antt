@@ -70,8 +70,8 @@ module _ (op : ℕ → Op) where
     abbrev pub Holds : Targets → Items → Type 0
     Holds t nil = Unit {0}
     Holds t (one n rest) = At n (rowOf op (op n) t rest) × Holds t rest
-    Holds t (uif n p q rest) = At n (uifRow op n p) × Holds (inUif n p q t) p × Holds (inUif n p q t) q × Holds t rest
-    Holds t (loop n l rest) = At n (loopRow op) × Holds (inLoop n l) l × Holds t rest
+    Holds t (uif n p q rest) = At n (uifRow n p) × Holds (inUif n p q t) p × Holds (inUif n p q t) q × Holds t rest
+    Holds t (loop n l rest) = At n loopRow × Holds (inLoop n l) l × Holds t rest
     Holds t (switch n l rest) = At n (switchRow op n l) × Holds (inSwitch n l t) l × Holds t rest
 
     -- The same of the rows R and the numbers from a on.

@@ -196,7 +196,7 @@ module _ (kinds places : List ℕ) (t : Targets) where
     open-loop u g k wrote w2 inside =
         let fin : e ≡ suc n + size list = ends ∙ rw (at-loop kinds n h k) (omega arith) in
         rw (at-loop kinds n h k, append-nil (rows op (inLoop n list) list))
-        (rows-then place n (suc n) (loopRow op ∷ []) (rows op (inLoop n list) list) w w1 w2 wrote (omega arith)
+        (rows-then place n (suc n) (loopRow ∷ []) (rows op (inLoop n list) list) w w1 w2 wrote (omega arith)
         (rw (g, fin, add-one n) at inside))
 
     pub open-switch : (u : Targets)
@@ -234,11 +234,11 @@ module _ (kinds places : List ℕ) (t : Targets) where
         -- With the second part q, whose rows go the same ways.
         first-rows : (q : Items)
             → e ≡ n + size (uif n list q nil)
-            → w2 ≡ sets w (rowWords * n) (wordsOf place n (uifRow op n list ∷ rows op (inUif n list q t) list))
+            → w2 ≡ sets w (rowWords * n) (wordsOf place n (uifRow n list ∷ rows op (inUif n list q t) list))
         unfolding wordsIn wordsOf rows list
         first-rows q fin =
             let fin′ : e ≡ suc n + size list + size q = omega arith in
-            rows-then place n (suc n) (uifRow op n list ∷ []) (rows op (inUif n list q t) list) w w1 w2 (rw part at wrote) (omega arith)
+            rows-then place n (suc n) (uifRow n list ∷ []) (rows op (inUif n list q t) list) w w1 w2 (rw part at wrote) (omega arith)
             (rw (fin′, add-one n) at inside)
 
         pub open-if : e ≤ p → w2 ≡ sets w (rowWords * n) (wordsIn kinds places t n (blockIn kinds n))
@@ -262,6 +262,6 @@ module _ (kinds places : List ℕ) (t : Targets) where
             let fin′ : e ≡ suc n + size list + size q = omega arith in
             let same : listIn kinds p ≡ q = rw part (sym (second (omega (arith, part)))) in
             rw (append-nil (rows op v q))
-            (rows-then place n p (uifRow op n list ∷ rows op v list) (rows op v q) w w2 w3 (first-rows q fin)
+            (rows-then place n p (uifRow n list ∷ rows op v list) (rows op v q) w w2 w3 (first-rows q fin)
             (omega (arith, part, length-rows op v list)) (rw (same, fin′) at more)))
             ends

@@ -375,7 +375,7 @@ module _ {S : Type 0} (M M′ : Machine S) (T : ℕ → Row) (budget : ℕ) wher
 
     uif-reads : (E : Exits) (x n : ℕ) (p q rest : Items)
         → op n ≡ UIF
-        → RowAt M M′ T n (uifRow op n p)
+        → RowAt M M′ T n (uifRow n p)
         → Reads (uifExits x E) p (suc n)
         → ((c : ℕ) (s : S) → c ≤ budget → budget ≤ c + f → Sim (uifExits x E) c (go c (suc n + size p) s) (reads q c s))
         → Reads E rest x

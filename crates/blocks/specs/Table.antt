@@ -16,13 +16,13 @@ pub record Row : Type 0 where
 abbrev pub row : ℕ → ℕ → Row
 row jump label = record { jump = jump; label = label }
 
--- Where an instruction of a list goes: BRK; CONT and, in a loop's own list, ENDLOOP; ELSE.
+-- `Targets`, a struct of src/table.rt: where BRK, CONT or ENDLOOP, and ELSE in a list go, as numbers `brk`, `cont`, `after`.
 -- "BRK goes after the end of the innermost enclosing loop or SWITCH." "ENDLOOP and CONT go after BGNLOOP, CONT that of the
 -- innermost enclosing loop." "ELSE, reached from above, goes after ENDIF." (01, Blocks) Nowhere in the outermost list.
 abbrev pub nowhere : Targets
 nowhere = record { brk = 0; cont = 0; after = 0 }
 
--- Inside a UIF, a loop and a SWITCH at n.
+-- In the lists of a UIF, a loop and a SWITCH at n.
 abbrev pub inUif : ℕ → Items → Items → Targets → Targets
 inUif n p q t = record { brk = t .brk; cont = t .cont; after = suc n + size p + size q }
 
@@ -32,6 +32,8 @@ inLoop n l = record { brk = suc n + size l; cont = suc n; after = 0 }
 abbrev pub inSwitch : ℕ → Items → Targets → Targets
 inSwitch n l t = record { brk = suc n + size l; cont = t .cont; after = 0 }
 
+-- "Jump, as instruction numbers: UIF its false case; ELSE, ENDLOOP, CONT, BRK as above; SWITCH the one after ENDSWITCH. Label:
+-- SWITCH its first label; CASE and DEFAULT the next label of their SWITCH, 0 for none. All else 0." (01, Blocks)
 abbrev pub jumpOf : Op → Targets → ℕ
 jumpOf ELSE t = t .after
 jumpOf ENDLOOP t = t .cont
@@ -47,6 +49,13 @@ jumpOf END t = 0
 jumpOf UIF t = 0
 jumpOf SWITCH t = 0
 
+-- Of a UIF at n with the first part p: "UIF with x = 0 goes after its ELSE, or after ENDIF if none", which is the last of p.
+abbrev pub uifRow : ℕ → Items → Row
+uifRow n p = row (suc n + size p) 0
+
+abbrev pub loopRow : Row
+loopRow = row 0 0
+
 module _ (op : ℕ → Op) where
   -- The number of a list's first own label, 0 for none.
   unfoldable pub firstLabel : Items → ℕ
@@ -56,20 +65,11 @@ module _ (op : ℕ → Op) where
   firstLabel (loop n l rest) = firstLabel rest
   firstLabel (switch n l rest) = firstLabel rest
 
-  -- "Jump, as instruction numbers: UIF its false case; ELSE, ENDLOOP, CONT, BRK as above; SWITCH the one after ENDSWITCH. Label:
-  -- SWITCH its first label; CASE and DEFAULT the next label of their SWITCH, 0 for none. All else 0." (01, Blocks)
-  -- Of an instruction that opens no block, before the list `rest`:
+  -- Of an instruction that opens no block, before the list `rest`.
   abbrev pub rowOf : Op → Targets → Items → Row
   rowOf o t rest = row (jumpOf o t) (cond (isLabel o) (firstLabel rest) 0)
 
-  -- Of a UIF, a loop and a SWITCH at n. "UIF with x = 0 goes after its ELSE, or after ENDIF if none": past its first part,
-  -- of which ELSE or ENDIF is the last.
-  abbrev pub uifRow : ℕ → Items → Row
-  uifRow n p = row (suc n + size p) 0
-
-  abbrev pub loopRow : Row
-  loopRow = row 0 0
-
+  -- Of a SWITCH at n with the list l.
   abbrev pub switchRow : ℕ → Items → Row
   switchRow n l = row (suc n + size l) (firstLabel l)
 

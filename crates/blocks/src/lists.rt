@@ -115,14 +115,14 @@ pub fn next_label(kinds: &[u8], n: usize) -> usize
 {
     let mut m = n;
     while m < kinds.len() {
-        let kind = kinds[m];
-        if is_last(kind) {
+        let mark = kinds[m];
+        if is_last(mark) {
             return 0;
         }
-        if is_opening(kind) {
+        if is_opening(mark) {
             m = past_block(kinds, m);
         } else {
-            if is_label(kind) {
+            if is_label(mark) {
                 return m;
             }
             m += 1;
