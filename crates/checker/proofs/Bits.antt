@@ -169,11 +169,11 @@ unfolding bit
 low-half w n h e =
     let z = eqb-false (w / 2 ^ n % 2) 1 e in
     ⊎-elim (λ l. absurd (z (half l))) (λ l. l) (le-or-lt (2 ^ n) w)
-    where
-  half : 2 ^ n ≤ w → w / 2 ^ n % 2 ≡ 1
-  half l =
-      let s : w ≡ 1 * 2 ^ n + (w - 2 ^ n) = omega arith in
-      ap (λ (x : ℕ). x / 2 ^ n % 2) s ∙ ap (λ (x : ℕ). x % 2) (high 1 n (omega (arith, pow-suc 2 n)))
+  where
+    half : 2 ^ n ≤ w → w / 2 ^ n % 2 ≡ 1
+    half l =
+        let s : w ≡ 1 * 2 ^ n + (w - 2 ^ n) = omega arith in
+        ap (λ (x : ℕ). x / 2 ^ n % 2) s ∙ ap (λ (x : ℕ). x % 2) (high 1 n (omega (arith, pow-suc 2 n)))
 
 some-bit : (n w : ℕ) → w < 2 ^ n → (w ≡ 0 → ⊥) → anyOf (bit w) 0 n ≡ true
 some-bit zero w h z = absurd (z (omega arith))

@@ -47,8 +47,13 @@ module _ (codes starts : List ℕ) (n end code : ℕ) (a : length codes ≡ 16) 
   pub pushed-blocks : (values : List ℕ) → blocksIn (set codes n code) (set starts n end) values (n + 1) end ≡ openOf code [] ∷ blocksIn codes starts values n end
   pushed-blocks values =
       let z : end - end ≡ 0 = omega arith in
-      rw (add-one n, getD-set-same codes n code 0 (omega arith), getD-set-same starts n end 0 (omega arith), z,
-      blocks-same codes starts (set codes n code) (set starts n end) values n end (λ k l. set-below codes n code k n l (omega arith)) (λ k l. set-below starts n end k n l (omega arith)))
+      rw (
+        add-one n,
+        getD-set-same codes n code 0 (omega arith),
+        getD-set-same starts n end 0 (omega arith),
+        z,
+        blocks-same codes starts (set codes n code) (set starts n end) values n end (λ k l. set-below codes n code k n l (omega arith)) (λ k l. set-below starts n end k n l (omega arith)),
+      )
 
   pub pushed-stacked : code < 5 → Stacked codes starts n end → Stacked (set codes n code) (set starts n end) (n + 1) end
   pushed-stacked c s =
@@ -84,8 +89,10 @@ module _ (codes starts : List ℕ) (n end code : ℕ) (a : length codes ≡ 16) 
   recoded-blocks values = subst (λ (m : ℕ). blocksIn (set codes (n - 1) code) starts values m end ≡ openOf code (newestFirst values (topStart starts m end) (end - topStart starts m end)) ∷ drop 1 (blocksIn codes starts values m end)) (sym (pred n h)) at-suc where
     at-suc : blocksIn (set codes (n - 1) code) starts values (suc (n - 1)) end ≡ openOf code (newestFirst values (getD starts (n - 1) 0) (end - getD starts (n - 1) 0)) ∷ blocksIn codes starts values (n - 1) (getD starts (n - 1) 0)
     at-suc =
-        rw (getD-set-same codes (n - 1) code 0 (omega arith),
-        blocks-same codes starts (set codes (n - 1) code) starts values (n - 1) (getD starts (n - 1) 0) (λ k q. set-below codes (n - 1) code k (n - 1) q (omega arith)) (λ k q. refl))
+        rw (
+          getD-set-same codes (n - 1) code 0 (omega arith),
+          blocks-same codes starts (set codes (n - 1) code) starts values (n - 1) (getD starts (n - 1) 0) (λ k q. set-below codes (n - 1) code k (n - 1) q (omega arith)) (λ k q. refl),
+        )
 
   pub recoded-stacked : code < 5 → Stacked codes starts n end → Stacked (set codes (n - 1) code) starts n end
   recoded-stacked c s = subst (λ (m : ℕ). Stacked (set codes (n - 1) code) starts m end) (sym (pred n h)) at-suc where
@@ -119,16 +126,16 @@ newest-more ws x from end l h =
 relabel-case : (x : ℕ) (vs : List ℕ) (σ : List Open) (k : ℕ) → k < 5 → within 3 4 k ≡ true → openOf k (x ∷ vs) ∷ σ ≡ openAfter CASE x (openOf k vs ∷ σ)
 relabel-case x vs σ =
     code-cases (λ (k : ℕ). within 3 4 k ≡ true → openOf k (x ∷ vs) ∷ σ ≡ openAfter CASE x (openOf k vs ∷ σ)) (λ e. never e) (λ e. never e) (λ e. never e) (λ e. refl) (λ e. refl)
-    where
-  never : {A : Type 0} → false ≡ true → A
-  never e = let z : _≡_ {A = ℕ} 0 1 = cc in absurd (omega arith)
+  where
+    never : {A : Type 0} → false ≡ true → A
+    never e = let z : _≡_ {A = ℕ} 0 1 = cc in absurd (omega arith)
 
 relabel-default : (x : ℕ) (vs : List ℕ) (σ : List Open) (k : ℕ) → k < 5 → within 3 4 k ≡ true → openOf 4 vs ∷ σ ≡ openAfter DEFAULT x (openOf k vs ∷ σ)
 relabel-default x vs σ =
     code-cases (λ (k : ℕ). within 3 4 k ≡ true → openOf 4 vs ∷ σ ≡ openAfter DEFAULT x (openOf k vs ∷ σ)) (λ e. never e) (λ e. never e) (λ e. never e) (λ e. refl) (λ e. refl)
-    where
-  never : {A : Type 0} → false ≡ true → A
-  never e = let z : _≡_ {A = ℕ} 0 1 = cc in absurd (omega arith)
+  where
+    never : {A : Type 0} → false ≡ true → A
+    never e = let z : _≡_ {A = ℕ} 0 1 = cc in absurd (omega arith)
 
 pub labelled-blocks : (codes starts values : List ℕ) (n end x : ℕ) → end < length values → within 3 4 (topCode codes n) ≡ true → Stacked codes starts n end
     → blocksIn codes starts (set values end x) n (end + 1) ≡ openAfter CASE x (blocksIn codes starts values n end)

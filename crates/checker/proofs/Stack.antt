@@ -28,10 +28,10 @@ op-cases P p81 p82 p83 p84 p85 p86 p87 p88 p89 p90 p91 p92 plain k =
     when-number P 0x87 p87 k (λ e87. when-number P 0x88 p88 k (λ e88. when-number P 0x89 p89 k (λ e89.
     when-number P 0x90 p90 k (λ e90. when-number P 0x91 p91 k (λ e91. when-number P 0x92 p92 k (λ e92.
     plain k (others e81 e82 e83 e84 e85 e86 e87 e88 e89 e90 e91 e92) e83 e90 e91))))))))))))
-    where
-  others : eqb k 0x81 ≡ false → eqb k 0x82 ≡ false → eqb k 0x83 ≡ false → eqb k 0x84 ≡ false → eqb k 0x85 ≡ false → eqb k 0x86 ≡ false
-      → eqb k 0x87 ≡ false → eqb k 0x88 ≡ false → eqb k 0x89 ≡ false → eqb k 0x90 ≡ false → eqb k 0x91 ≡ false → eqb k 0x92 ≡ false → opOf k ≡ PLAIN
-  others e81 e82 e83 e84 e85 e86 e87 e88 e89 e90 e91 e92 = rw (e81, e82, e83, e84, e85, e86, e87, e88, e89, e90, e91, e92)
+  where
+    others : eqb k 0x81 ≡ false → eqb k 0x82 ≡ false → eqb k 0x83 ≡ false → eqb k 0x84 ≡ false → eqb k 0x85 ≡ false → eqb k 0x86 ≡ false
+        → eqb k 0x87 ≡ false → eqb k 0x88 ≡ false → eqb k 0x89 ≡ false → eqb k 0x90 ≡ false → eqb k 0x91 ≡ false → eqb k 0x92 ≡ false → opOf k ≡ PLAIN
+    others e81 e82 e83 e84 e85 e86 e87 e88 e89 e90 e91 e92 = rw (e81, e82, e83, e84, e85, e86, e87, e88, e89, e90, e91, e92)
 
 -- ---- Codes
 
@@ -232,12 +232,12 @@ module _ (b : Blocks) (sound : SoundBlocks b) (kind x : ℕ) (values : List ℕ)
         (ap not (by-top (isSwitch (λ vs d. eqb (length vs) 0 && not d)) (λ k. within 3 3 k && eqb (b .held - start) 0) refl refl refl refl
         (sym (and-true (eqb (length (topValues b values)) 0) ∙ ap (λ (m : ℕ). eqb m 0) many)) (sym (and-false (eqb (length (topValues b values)) 0))))
         ∙ plainly kind n87 n88 n92)
-        where
-      plainly : (k : ℕ) → (k ≡ 0x87 → ⊥) → (k ≡ 0x88 → ⊥) → (k ≡ 0x92 → ⊥) → not (innermost (isSwitch (λ vs d. eqb (length vs) 0 && not d)) (blocksOf b values)) ≡ switchRule (opOf k) x (blocksOf b values)
-      plainly =
-          op-cases (λ (k : ℕ). (k ≡ 0x87 → ⊥) → (k ≡ 0x88 → ⊥) → (k ≡ 0x92 → ⊥) → not (innermost (isSwitch (λ vs d. eqb (length vs) 0 && not d)) (blocksOf b values)) ≡ switchRule (opOf k) x (blocksOf b values))
-          (λ a b c. refl) (λ a b c. refl) (λ a b c. refl) (λ a b c. refl) (λ a b c. refl) (λ a b c. refl) (λ a b c. absurd (a refl))
-          (λ a b c. absurd (b refl)) (λ a b c. refl) (λ a b c. refl) (λ a b c. refl) (λ a b c. absurd (c refl)) (λ k plain _ _ _ a b c. rw plain refl)
+      where
+        plainly : (k : ℕ) → (k ≡ 0x87 → ⊥) → (k ≡ 0x88 → ⊥) → (k ≡ 0x92 → ⊥) → not (innermost (isSwitch (λ vs d. eqb (length vs) 0 && not d)) (blocksOf b values)) ≡ switchRule (opOf k) x (blocksOf b values)
+        plainly =
+            op-cases (λ (k : ℕ). (k ≡ 0x87 → ⊥) → (k ≡ 0x88 → ⊥) → (k ≡ 0x92 → ⊥) → not (innermost (isSwitch (λ vs d. eqb (length vs) 0 && not d)) (blocksOf b values)) ≡ switchRule (opOf k) x (blocksOf b values))
+            (λ a b c. refl) (λ a b c. refl) (λ a b c. refl) (λ a b c. refl) (λ a b c. refl) (λ a b c. refl) (λ a b c. absurd (a refl))
+            (λ a b c. absurd (b refl)) (λ a b c. refl) (λ a b c. refl) (λ a b c. refl) (λ a b c. absurd (c refl)) (λ k plain _ _ _ a b c. rw plain refl)
 
 pub opens-by : (kind : ℕ) → (eqb kind 0x90 || eqb kind 0x83 || eqb kind 0x91) ≡ opens (opOf kind)
 unfolding opOf

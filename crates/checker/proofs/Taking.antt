@@ -124,13 +124,13 @@ module _ (s : State) (kind : ℕ) (words values file : List ℕ) (at : ℕ) (pad
   whole =
       rw (immediates-counted s words values sound padded, ← here)
       (by (leb 1024 (s .program .instructions)) (not (operandRules kind file at)) (not (operandsFound kind (isIn (s .program .declared)) (4 * s .program .immediates) file at)) _)
-      where
-    by : (a b c : Bool) (f : Finding) → cond a (due 6) (cond b (due 7) (cond c (due 9) f))
-        ≡ cond (eqb (cond a 6 (cond b 7 (cond c 9 0))) 0) f (due (cond a 6 (cond b 7 (cond c 9 0))))
-    by true b c f = refl
-    by false true c f = refl
-    by false false true f = refl
-    by false false false f = refl
+    where
+      by : (a b c : Bool) (f : Finding) → cond a (due 6) (cond b (due 7) (cond c (due 9) f))
+          ≡ cond (eqb (cond a 6 (cond b 7 (cond c 9 0))) 0) f (due (cond a 6 (cond b 7 (cond c 9 0))))
+      by true b c f = refl
+      by false true c f = refl
+      by false false true f = refl
+      by false false false f = refl
 
   pub passed-operands : operandRefusal (s .program) kind file at ≡ 0
       → nested (seen s words values) (rule (opOf kind) (caseWord (take (4 * s .program .immediates) words) file at) (blocksOf (s .blocks) values)) ≡ instructionFinding (seen s words values) file at

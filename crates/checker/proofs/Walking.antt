@@ -90,7 +90,7 @@ unfolding withInstruction
 end-closed s file at u found e =
     let p : Passed s file at u = passed s file at u (taken-instruction s file at u found (λ q. omega arith) (λ q. omega arith)) in
     let r : rule (opOf 0x89) (caseWord (s .immediates) file at) (s .blocks) ≡ goes (p .blocks) =
-        subst (λ (k : ℕ). rule (opOf k) (caseWord (s .immediates) file at) (s .blocks) ≡ goes (p .blocks)) e (p .rules)
+    subst (λ (k : ℕ). rule (opOf k) (caseWord (s .immediates) file at) (s .blocks) ≡ goes (p .blocks)) e (p .rules)
     in
     ap (λ (v : Seen). v .blocks) (p .after) ∙ end-rule _ (s .blocks) (p .blocks) r
 

@@ -94,8 +94,8 @@ module _ (file : List ℕ) (at : ℕ) (s t : Seen) where
   unfolding instructionFinding
   instruction e =
       let a = unless (leb mostInstructions (s .instructions)) 6 _ t e in
-      let b = unless (not (operandRules file at)) 7 _ t (a .1) in
-      let c = unless (not (operandsFound (s .declared) (length (s .immediates)) file at)) 9 _ t (b .1) in
+      let b = unless (not (operandRules (getD file at 0) file at)) 7 _ t (a .1) in
+      let c = unless (not (operandsFound (getD file at 0) (s .declared) (length (s .immediates)) file at)) 9 _ t (b .1) in
       ruled _ refl (leb-false _ _ (a .0)) (c .1)
 
   changed : recordFinding s file at ≡ taken t → (sizeAt file at ≡ 0 → ⊥) × Change file at s t

@@ -3,11 +3,12 @@
 use mathlib.Core.Path.{_≡_, refl, sym, ap, _∙_, subst}
 use mathlib.Core.Bool.{Bool, true, false, cond}
 use mathlib.Core.List.{List, [], _++_}
-use Prim.Native.Nat.{ℕ, _+_, _*_, _<_, _≤_}
+use Prim.Native.Nat.{ℕ, _+_, _-_, _*_, _<_, _≤_}
 use native.Mathlib.Omega.{arith}
+use native.Mathlib.Nat.{min-eq-left, min-le-left}
 use borrow.Author.Tests.{lt-ltb, le-ltb, le-leb, ne-eqb, eq-eqb, ltb-false}
 use lib.Dec.{eqb, ltb, leb}
-use lib.ListN.{length, take}
+use lib.ListN.{length, take, replicate, length-append, length-take, length-replicate}
 use lib.Seq.{sets}
 use Rattle.format.specs.Fields.{caseWord}
 use Rattle.format.specs.Records.{longest}
@@ -21,7 +22,7 @@ use Rattle.checker.specs.declared.Checked.{Checked}
 use Rattle.checker.specs.declared.Verdict.{Verdict}
 use Rattle.checker.specs.declared.Verdict.the-variants.{Accepted, Refused}
 use Rattle.checker.specs.declared.program.Program.{Program}
-use Rattle.checker.specs.Check.{accepted, refused, checkOf, programSeen, outcome, concluded}
+use Rattle.checker.specs.Check.{accepted, refused, checkOf, programSeen, outcome, concluded, wordsAfter}
 use Rattle.checker.specs.Check as check
 use Rattle.checker.specs.Findings.{Seen}
 use Rattle.checker.specs.Sets.{isIn}
@@ -175,6 +176,31 @@ module _ (file : List ℕ) (c : Checked) (words : List ℕ) (said : outcome c wo
 
   pub is-taken : (n : ℕ) → c .verdict ≡ Accepted n → Taken (c .program) (take (4 * c .program .immediates) words) file
   is-taken n e = record { is = is-accepted n e }
+
+  -- The words lent to the check are still 1,024.
+  module _ (before : List ℕ)
+      (after-check : words ≡ wordsAfter (checkOf file) before)
+      (few : c .program .immediates ≤ 256)
+      (long : length before ≡ 1024)
+    where
+      words-by : (v : Verdict) → c .verdict ≡ v → length words ≡ 1024
+      words-by (Accepted n) e =
+          let s : List ℕ = take (4 * c .program .immediates) words in
+          let w : words ≡ take (4 * c .program .immediates) words ++ replicate (1024 - length (take (4 * c .program .immediates) words)) 0 =
+          after-check ∙ ap (λ o. wordsAfter o before) (is-accepted n e) in
+          ap length w
+          ∙ simp (length-append, length-replicate)
+          (omega (arith, length-take (4 * c .program .immediates) words, min-le-left (4 * c .program .immediates) (length words)))
+      words-by (Refused number place) e = ap length (after-check ∙ ap (λ o. wordsAfter o before) (is-refused number place e)) ∙ long
+
+      words-are-1024 : length words ≡ 1024
+      words-are-1024 = words-by (c .verdict) refl
+
+      pub words-held : 4 * c .program .immediates ≤ length words
+      words-held = omega (arith, words-are-1024)
+
+      pub words-long : 4 * c .program .immediates ≡ length (take (4 * c .program .immediates) words)
+      words-long = sym (length-take (4 * c .program .immediates) words ∙ min-eq-left words-held)
 
   -- ---- Preparing alone
 

@@ -4,10 +4,8 @@
 use mathlib.Core.Path.{_≡_, refl, sym, ap, _∙_}
 use mathlib.Core.Bool.{Bool}
 use mathlib.Core.List.{List}
-use Prim.Native.Nat.{ℕ, suc, _+_, _-_, _*_, _^_, _<_, _≤_}
+use Prim.Native.Nat.{ℕ, suc, _+_, _-_, _^_, _<_, _≤_}
 use native.Mathlib.Omega.{arith}
-use native.Mathlib.Nat.{min-eq-left}
-use lib.ListN.{length, take, length-take}
 use native.Mathlib.Numerals.{add-one}
 use Rattle.blocks.specs.declared.Next.{Next}
 use Rattle.blocks.specs.declared.Next.the-variants.{At, Ended}
@@ -85,11 +83,3 @@ module _ (file rows inputs constants immediates bits : List ℕ) (asked : ℕ �
       → Came file rows inputs constants immediates (declaredIn bits) budget s₀ r s
       → Came file rows inputs constants immediates asked budget s₀ r s
   came-asked budget s₀ s r h = rw same at h
-
--- The immediates' words are a part of 1,024.
-module _ (n : ℕ) (words : List ℕ) (few : n ≤ 256) (long : length words ≡ 1024) where
-  pub words-held : 4 * n ≤ length words
-  words-held = omega arith
-
-  pub words-long : 4 * n ≡ length (take (4 * n) words)
-  words-long = sym (length-take (4 * n) words ∙ min-eq-left words-held)

@@ -11,6 +11,7 @@ mod lent;
 mod steps;
 
 pub use checker::Verdict;
+pub use checker::check;
 pub use format::records::record;
 pub use format::records::record_bounds;
 

@@ -9,7 +9,7 @@ pub prepare-spec : {M : Type 1} → statement M
 prepare-spec =
     tie.close
     (tie.spec
-    (λ c κs. ?stub)
+    (search needs)
     (search needs)
     (search needs)
     (search needs)
@@ -17,7 +17,7 @@ prepare-spec =
     (λ c. search (needs, prepare-short))
     (search needs)
     (search needs)
-    (λ c κs. ?stub2)
+    (search needs)
     (λ c. search (needs, prepare-refused))
     (search needs)
     (λ c. search (needs, prepare-ready)))

@@ -1,11 +1,8 @@
 -- A run answers what its definition says, return by return: demand 3 whole is in the last.
 -- Assumes nothing.
-use mathlib.Core.Path.{_≡_}
+use mathlib.Core.Path.{refl}
 use borrow.Author.Needs.{needs}
-use native.Mathlib.Omega.{arith}
-use lib.ListN.{length}
-use Rattle.runner.proofs.Answering.{is-taken, run-refused, run-whole, run-within}
-use Rattle.runner.proofs.Loop.{words-held, words-long}
+use Rattle.runner.proofs.Answering.{words-held, words-long, is-taken, run-refused, run-whole, run-within}
 use Rattle.runner.proofs.run.Statement.{statement}
 use Rattle.runner.proofs.run.Tie as tie
 
@@ -13,11 +10,11 @@ pub run-spec : {M : Type 1} → statement M
 run-spec =
     tie.close
     (tie.spec
-    (λ c κs. ?stub)
     (search needs)
     (search needs)
-    (λ c. omega (arith, c .before .before .examine .kept, c .before .before .examine .ensures))
-    (λ c. let k = c .before .before .before .examine .kept in let m = c .before .before .before .examine .ensures .1 in words-long _ _ m ?len)
+    (search needs)
+    (λ c. let call = c .before .before .examine in let said = call .ensures in words-held _ (call .result) _ (said .0) _ (said .1 .1 .0) (said .1 .1 .1) refl)
+    (λ c. let call = c .before .before .before .examine in let said = call .ensures in words-long _ (call .result) _ (said .0) _ (said .1 .1 .0) (said .1 .1 .1) refl)
     (search needs)
     (search needs)
     (λ c κs. search (needs, is-taken))
