@@ -192,7 +192,7 @@ after-others kind x σ =
     (λ a b c d e f g h i. absurd (d refl)) (λ a b c d e f g h i. refl) (λ a b c d e f g h i. refl)
     (λ a b c d e f g h i. absurd (e refl)) (λ a b c d e f g h i. absurd (f refl)) (λ a b c d e f g h i. refl)
     (λ a b c d e f g h i. absurd (g refl)) (λ a b c d e f g h i. absurd (h refl)) (λ a b c d e f g h i. absurd (i refl))
-    (λ k plain _ _ _ a b c d e f g h i. rw plain refl) kind
+    (λ k plain _ _ _ _ a b c d e f g h i. rw plain refl) kind
 
 -- ---- What the rule says
 

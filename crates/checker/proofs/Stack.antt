@@ -20,14 +20,14 @@ use Rattle.checker.proofs.Choices.{when-number}
 
 -- A property of every kind, from the twelve that steer and the others.
 pub op-cases : (P : ℕ → Type 0) → P 0x81 → P 0x82 → P 0x83 → P 0x84 → P 0x85 → P 0x86 → P 0x87 → P 0x88 → P 0x89 → P 0x90 → P 0x91 → P 0x92
-    → ((k : ℕ) → opOf k ≡ PLAIN → eqb k 0x83 ≡ false → eqb k 0x90 ≡ false → eqb k 0x91 ≡ false → P k) → (k : ℕ) → P k
+    → ((k : ℕ) → opOf k ≡ PLAIN → eqb k 0x83 ≡ false → eqb k 0x89 ≡ false → eqb k 0x90 ≡ false → eqb k 0x91 ≡ false → P k) → (k : ℕ) → P k
 unfolding opOf
 op-cases P p81 p82 p83 p84 p85 p86 p87 p88 p89 p90 p91 p92 plain k =
     when-number P 0x81 p81 k (λ e81. when-number P 0x82 p82 k (λ e82. when-number P 0x83 p83 k (λ e83.
     when-number P 0x84 p84 k (λ e84. when-number P 0x85 p85 k (λ e85. when-number P 0x86 p86 k (λ e86.
     when-number P 0x87 p87 k (λ e87. when-number P 0x88 p88 k (λ e88. when-number P 0x89 p89 k (λ e89.
     when-number P 0x90 p90 k (λ e90. when-number P 0x91 p91 k (λ e91. when-number P 0x92 p92 k (λ e92.
-    plain k (others e81 e82 e83 e84 e85 e86 e87 e88 e89 e90 e91 e92) e83 e90 e91))))))))))))
+    plain k (others e81 e82 e83 e84 e85 e86 e87 e88 e89 e90 e91 e92) e83 e89 e90 e91))))))))))))
     where
   others : eqb k 0x81 ≡ false → eqb k 0x82 ≡ false → eqb k 0x83 ≡ false → eqb k 0x84 ≡ false → eqb k 0x85 ≡ false → eqb k 0x86 ≡ false
       → eqb k 0x87 ≡ false → eqb k 0x88 ≡ false → eqb k 0x89 ≡ false → eqb k 0x90 ≡ false → eqb k 0x91 ≡ false → eqb k 0x92 ≡ false → opOf k ≡ PLAIN
@@ -125,7 +125,7 @@ nested-anyway β kind values =
     (λ a b c d e f g h i. absurd (c refl)) (λ a b c d e f g h i. absurd (d refl)) (λ a b c d e f g h i. absurd (e refl))
     (λ a b c d e f g h i. absurd (f refl)) (λ a b c d e f g h i. absurd (g refl)) (λ a b c d e f g h i. absurd (h refl))
     (λ a b c d e f g h i. refl) (λ a b c d e f g h i. refl) (λ a b c d e f g h i. absurd (i refl))
-    (λ k plain _ _ _ a b c d e f g h i. rw plain refl) kind
+    (λ k plain _ _ _ _ a b c d e f g h i. rw plain refl) kind
 
 -- ---- What the code reads
 
@@ -237,10 +237,10 @@ module _ (b : Blocks) (sound : SoundBlocks b) (kind x : ℕ) (values : List ℕ)
       plainly =
           op-cases (λ (k : ℕ). (k ≡ 0x87 → ⊥) → (k ≡ 0x88 → ⊥) → (k ≡ 0x92 → ⊥) → not (innermost (isSwitch (λ vs d. eqb (length vs) 0 && not d)) (blocksOf b values)) ≡ switchRule (opOf k) x (blocksOf b values))
           (λ a b c. refl) (λ a b c. refl) (λ a b c. refl) (λ a b c. refl) (λ a b c. refl) (λ a b c. refl) (λ a b c. absurd (a refl))
-          (λ a b c. absurd (b refl)) (λ a b c. refl) (λ a b c. refl) (λ a b c. refl) (λ a b c. absurd (c refl)) (λ k plain _ _ _ a b c. rw plain refl)
+          (λ a b c. absurd (b refl)) (λ a b c. refl) (λ a b c. refl) (λ a b c. refl) (λ a b c. absurd (c refl)) (λ k plain _ _ _ _ a b c. rw plain refl)
 
 pub opens-by : (kind : ℕ) → (eqb kind 0x90 || eqb kind 0x83 || eqb kind 0x91) ≡ opens (opOf kind)
 unfolding opOf
 opens-by =
     op-cases (λ (k : ℕ). (eqb k 0x90 || eqb k 0x83 || eqb k 0x91) ≡ opens (opOf k)) refl refl refl refl refl refl refl refl refl refl refl refl
-    (λ k plain loop uif switch. rw (plain, loop, uif, switch))
+    (λ k plain loop end uif switch. rw (plain, loop, uif, switch))

@@ -30,11 +30,11 @@ use Rattle.checker.proofs.Keeping.{count-words}
 
 -- ---- A record that is taken
 
-due-not-taken : {A : Type 0} {n : ℕ} {u : Seen} → due n ≡ taken u → A
+pub due-not-taken : {A : Type 0} {n : ℕ} {u : Seen} → due n ≡ taken u → A
 due-not-taken e = let z : _≡_ {A = ℕ} 0 1 = cc in absurd (omega arith)
 
 -- A refusal that is not due lets the rest of the chain be taken.
-past-due : (t : Bool) (n : ℕ) (f : Finding) (u : Seen) → cond t (due n) f ≡ taken u → (t ≡ false) × (f ≡ taken u)
+pub past-due : (t : Bool) (n : ℕ) (f : Finding) (u : Seen) → cond t (due n) f ≡ taken u → (t ≡ false) × (f ≡ taken u)
 past-due true n f u e = due-not-taken e
 past-due false n f u e = (refl, e)
 
