@@ -11,15 +11,15 @@ use native.Mathlib.Numerals.{add-one}
 use native.Mathlib.Nat.{eq-or-lt-of-le}
 use lib.Dec.{eqb, leb, ltb}
 use lib.ListN.{length, getD}
-use borrow.Author.Tests.{lt-ltb, ltb-true, ltb-false, eqb-true, eqb-false, ne-eqb}
+use borrow.Author.Tests.{lt-ltb, ltb-true, ltb-false, eqb-true, eqb-false}
 use Rattle.format.specs.Records.{longest, sizeAt, placeFrom}
 use Rattle.format.specs.Fields.{declarationAt, caseWord}
 use Rattle.format.proofs.Walk.{place-step}
 use Rattle.blocks.specs.Control.{Op, END, is, opOf}
-use Rattle.blocks.specs.Nesting.{Open, goes, rule, passes, accepts}
+use Rattle.blocks.specs.Nesting.{accepts}
 use Rattle.checker.specs.Rules.{declarationRule}
 use Rattle.checker.specs.Findings.{Seen, nothing, Finding, taken, due, overlaps, withDeclaration, declarationFinding, withImmediate, immediateFinding, withInstruction, recordFinding}
-use Rattle.checker.specs.Check.{Outcome, accepted, refused, onward, walk, checkOf}
+use Rattle.checker.specs.Check.{accepted, refused, onward, walk, checkOf}
 use Rattle.checker.proofs.Stack.{op-cases}
 use Rattle.checker.proofs.Walking.{due-not-taken, past-due, taken-whole, taken-declaration, taken-immediate, taken-instruction, Passed, passed}
 
@@ -159,11 +159,11 @@ module _ (file : List ℕ) where
   later (suc k) at s f e place h =
       let t : Turned k at s f = turned k at s f e in
       let i : Instruction file at =
-          record {
-            whole = taken-whole s file at (t .after) (t .found);
-            not-declaration = λ q. late (s .instructions) _ (t .after) h (taken-declaration s file at (t .after) (t .found) q);
-            not-immediate = λ q. late (s .instructions) _ (t .after) h (taken-immediate s file at (t .after) (t .found) q);
-          }
+      record {
+        whole = taken-whole s file at (t .after) (t .found);
+        not-declaration = λ q. late (s .instructions) _ (t .after) h (taken-declaration s file at (t .after) (t .found) q);
+        not-immediate = λ q. late (s .instructions) _ (t .after) h (taken-immediate s file at (t .after) (t .found) q);
+      }
       in
       body k at s f t place i (λ r. later k (at + sizeAt file at) (t .after) f r (after-place k at s f t place i) (after-some k at s f t place i))
 
@@ -224,7 +224,7 @@ module _ (file : List ℕ) where
         rest (t .after) (rw q at (t .rest)) (given-before at s (t .after) before (taken-immediate s file at (t .after) (t .found) q))
     by-immediate n1 false e =
         let i : Instruction file at =
-            record { whole = taken-whole s file at (t .after) (t .found); not-declaration = n1; not-immediate = eqb-false (getD file at 0) 2 e } in
+        record { whole = taken-whole s file at (t .after) (t .found); not-declaration = n1; not-immediate = eqb-false (getD file at 0) 2 e } in
         first at s f before (t .inside)
         (body k at s f t place i (λ r. later k (at + sizeAt file at) (t .after) f r (after-place k at s f t place i) (after-some k at s f t place i)))
 

@@ -5,17 +5,17 @@ use mathlib.Core.Bool.{Bool, true, false, cond, not}
 use mathlib.Core.List.{List, []}
 use Prim.Native.Nat.{ℕ, _+_, _*_, _<_, _≤_}
 use native.Mathlib.Omega.{arith}
-use lib.Dec.{eqb, leb, ltb}
+use lib.Dec.{eqb, leb}
 use lib.ListN.{length, getD, take}
 use borrow.Author.Tests.{eq-eqb, ne-eqb, le-leb, lt-leb, leb-false, not-false}
 use Rattle.format.specs.Records.{sizeAt}
 use Rattle.format.specs.Fields.{caseWord}
 use Rattle.format.proofs.Walk.{size-fits}
 use Rattle.blocks.specs.Control.{opOf}
-use Rattle.blocks.specs.Nesting.{Open, Ruling, goes, refused, rule}
+use Rattle.blocks.specs.Nesting.{goes, refused, rule}
 use Rattle.checker.specs.Rules.{operandRules}
 use Rattle.checker.specs.Sets.{isIn}
-use Rattle.checker.specs.Findings.{Seen, nothing, Finding, taken, due, operandsFound, withInstruction, nested, instructionFinding}
+use Rattle.checker.specs.Findings.{nothing, Finding, due, operandsFound, withInstruction, nested, instructionFinding}
 use Rattle.checker.specs.Check.{programSeen}
 use Rattle.checker.specs.Held.{Stacked, blocksOf, rulingOf, seen, findingOf, operandRefusal, instructed, takenBy, takenOf, Padded, SoundBlocks, Sound}
 use Rattle.checker.specs.declared.nesting.Blocks.{Blocks}
@@ -124,13 +124,13 @@ module _ (s : State) (kind : ℕ) (words values file : List ℕ) (at : ℕ) (pad
   whole =
       rw (immediates-counted s words values sound padded, ← here)
       (by (leb 1024 (s .program .instructions)) (not (operandRules kind file at)) (not (operandsFound kind (isIn (s .program .declared)) (4 * s .program .immediates) file at)) _)
-      where
-    by : (a b c : Bool) (f : Finding) → cond a (due 6) (cond b (due 7) (cond c (due 9) f))
-        ≡ cond (eqb (cond a 6 (cond b 7 (cond c 9 0))) 0) f (due (cond a 6 (cond b 7 (cond c 9 0))))
-    by true b c f = refl
-    by false true c f = refl
-    by false false true f = refl
-    by false false false f = refl
+    where
+      by : (a b c : Bool) (f : Finding) → cond a (due 6) (cond b (due 7) (cond c (due 9) f))
+          ≡ cond (eqb (cond a 6 (cond b 7 (cond c 9 0))) 0) f (due (cond a 6 (cond b 7 (cond c 9 0))))
+      by true b c f = refl
+      by false true c f = refl
+      by false false true f = refl
+      by false false false f = refl
 
   pub passed-operands : operandRefusal (s .program) kind file at ≡ 0
       → nested (seen s words values) (rule (opOf kind) (caseWord (take (4 * s .program .immediates) words) file at) (blocksOf (s .blocks) values)) ≡ instructionFinding (seen s words values) file at

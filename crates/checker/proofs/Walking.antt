@@ -1,17 +1,16 @@
 -- The walk over the records: what is left to check from a place on is the whole check, and each way out of a turn is one law.
 -- Assumes nothing.
 use mathlib.Core.Path.{_≡_, refl, sym, ap, _∙_, subst}
-use mathlib.Core.Bool.{Bool, true, false, cond, not, _&&_, _||_}
+use mathlib.Core.Bool.{Bool, true, false, cond, not}
 use mathlib.Core.List.{List, [], _∷_, _++_}
 use Prim.Native.Nat.{ℕ, zero, suc, _+_, _-_, _*_, _<_, _≤_}
 use native.Mathlib.Omega.{arith}
 use lib.Dec.{eqb, leb, ltb, eqb·suc-zero}
 use lib.ListN.{length, getD, take, replicate, take-append-drop}
-use borrow.Author.Tests.{lt-ltb, le-ltb, lt-leb, leb-false, eq-eqb, ne-eqb, eqb-false, not-true}
+use borrow.Author.Tests.{lt-ltb, le-ltb, leb-false, eq-eqb, ne-eqb, eqb-false}
 use Rattle.format.specs.Kinds.{lengthOf}
 use Rattle.format.specs.Records.{longest, sizeAt}
 use Rattle.format.specs.Fields.{caseWord}
-use Rattle.format.proofs.Walk.{size-fits}
 use Rattle.blocks.specs.Control.{opOf}
 use Rattle.blocks.specs.Nesting.{Open, Ruling, goes, rule}
 use Rattle.blocks.specs.Nesting as nesting
@@ -90,7 +89,7 @@ unfolding withInstruction
 end-closed s file at u found e =
     let p : Passed s file at u = passed s file at u (taken-instruction s file at u found (λ q. omega arith) (λ q. omega arith)) in
     let r : rule (opOf 0x89) (caseWord (s .immediates) file at) (s .blocks) ≡ goes (p .blocks) =
-        subst (λ (k : ℕ). rule (opOf k) (caseWord (s .immediates) file at) (s .blocks) ≡ goes (p .blocks)) e (p .rules)
+    subst (λ (k : ℕ). rule (opOf k) (caseWord (s .immediates) file at) (s .blocks) ≡ goes (p .blocks)) e (p .rules)
     in
     ap (λ (v : Seen). v .blocks) (p .after) ∙ end-rule _ (s .blocks) (p .blocks) r
 

@@ -58,15 +58,24 @@ fn declaration(s: State, file: &[u8], at: usize, next: usize) -> Taken
 {
     let p = s.program;
     if 0 < p.instructions {
-        return Taken { refusal: 5, state: s };
+        return Taken {
+            refusal: 5,
+            state: s,
+        };
     }
     let d = format::fields::declaration_at(file, at + 1);
     if !operands::declaration_allowed(d) {
-        return Taken { refusal: 7, state: s };
+        return Taken {
+            refusal: 7,
+            state: s,
+        };
     }
     let declared = p.declared;
     if sets::is_any_declared(declared, d.file, d.first as usize, d.last as usize) {
-        return Taken { refusal: 8, state: s };
+        return Taken {
+            refusal: 8,
+            state: s,
+        };
     }
     let mut t = s;
     t.program = program::with_declaration(p, d, next);
@@ -84,10 +93,16 @@ fn immediate(s: State, file: &[u8], at: usize, next: usize, words: &mut [u32]) -
 {
     let p = s.program;
     if 0 < p.instructions {
-        return Taken { refusal: 5, state: s };
+        return Taken {
+            refusal: 5,
+            state: s,
+        };
     }
     if MOST_IMMEDIATES <= p.immediates {
-        return Taken { refusal: 6, state: s };
+        return Taken {
+            refusal: 6,
+            state: s,
+        };
     }
     let mut t = s;
     t.program = program::with_immediate(p, file, at, next, words);
@@ -184,11 +199,17 @@ fn record(s: State, file: &[u8], at: usize, words: &mut [u32], values: &mut [u32
 {
     let kind = format::fields::byte_at(file, at);
     if format::kinds::body_length(kind) == format::kinds::UNKNOWN {
-        return Taken { refusal: 3, state: s };
+        return Taken {
+            refusal: 3,
+            state: s,
+        };
     }
     let size = format::records::size_at(file, at);
     if size == 0 {
-        return Taken { refusal: 4, state: s };
+        return Taken {
+            refusal: 4,
+            state: s,
+        };
     }
     match kind {
         1 => declaration(s, file, at, at + size),
