@@ -177,11 +177,15 @@ module _ (file : List ℕ) (at : ℕ) (s : Seen) (going : Going file at s) where
   walk-past zero h = refl
   walk-past (suc k) h = rw (le-ltb at (length file) h)
 
-  pub walk-end : length file ≤ at → refused 13 (length file) ≡ checkOf file
+  walk-end : length file ≤ at → refused 13 (length file) ≡ checkOf file
   walk-end h = sym (walk-past (going .left) h) ∙ going .whole
 
-  pub walk-end-told : length file ≤ at → breaks 13 (length file) ≡ toldOf (checkOf file)
-  walk-end-told h = ap toldOf (walk-end h)
+  module _ (v : Verdict) (is : v ≡ Refused 13 (length file)) (h : length file ≤ at) where
+    pub ends-so : (p : Program) (words : List ℕ) → concluded v (programSeen p words []) ≡ checkOf file
+    ends-so p words = rw is (walk-end h)
+
+    pub ends-told : told v ≡ toldOf (checkOf file)
+    ends-told = rw is (ap toldOf (walk-end h))
 
   module _ (h : at < length file) where
     by-turn : onward (recordFinding s file at) file at (λ u. walk (going .left - 1) file (at + sizeAt file at) u) ≡ checkOf file
