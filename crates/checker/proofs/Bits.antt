@@ -1,8 +1,8 @@
 -- Bits of a word and of words: after one is set, in a search over them, and that a word without bits is 0.
 -- Assumes nothing.
-use mathlib.Core.Path.{_≡_, refl, sym, ap, _∙_, subst}
+use mathlib.Core.Path.{_≡_, refl, sym, ap, _∙_}
 use mathlib.Core.Bool.{Bool, true, false, not, _||_, _&&_}
-use mathlib.Core.Logic.{_⊎_, inl, inr, ⊎-elim}
+use mathlib.Core.Logic.{⊎-elim}
 use mathlib.Core.List.{List}
 use Prim.Native.Nat.{ℕ, zero, suc, _+_, _-_, _*_, _/_, _%_, _^_, _<_, _≤_}
 use native.Mathlib.Omega.{arith}
@@ -13,10 +13,9 @@ use lib.Bits.{bitOr, or-shr, or-mod}
 use lib.Pow.{pow-add, shl-shr, pow-lt, high}
 use lib.ListN.{length, getD, set, List·getD-eq-default}
 use lib.Seq.{getD-set-same, getD-set-other}
-use borrow.Author.Tests.{eq-eqb, ne-eqb, eqb-true, eqb-false, leb-true, leb-false, le-leb, lt-leb, le-ltb, lt-ltb}
-use Rattle.format.specs.Kinds.{within}
+use borrow.Author.Tests.{eq-eqb, ne-eqb, eqb-true, eqb-false, le-leb, lt-leb, le-ltb, lt-ltb}
 use Rattle.checker.specs.Sets.{bit, bitIn, anyOf, withOne, withAll}
-use Rattle.checker.proofs.Choices.{le-or-lt, or-false, or-comm}
+use Rattle.checker.proofs.Choices.{le-or-lt, or-false, or-comm, and-false}
 
 -- ---- One bit more
 
@@ -97,10 +96,6 @@ one-more first i j h =
 joined : (a b c : Bool) → (a || (b || c)) ≡ ((a || b) || c)
 joined true b c = refl
 joined false b c = refl
-
-and-false : (a : Bool) → (a && false) ≡ false
-and-false true = refl
-and-false false = refl
 
 no-range : (first i : ℕ) → (leb first i && ltb i first) ≡ false
 no-range first i = ⊎-elim (λ l. rw (le-ltb i first l) (and-false (leb first i))) (λ l. rw (lt-leb first i l)) (le-or-lt first i)

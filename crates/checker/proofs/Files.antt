@@ -1,18 +1,17 @@
 -- The register files: what holds of the words of one file, by its number, holds of the set.
 -- Assumes nothing.
-use mathlib.Core.Path.{_≡_, refl, sym, ap, _∙_, subst}
-use mathlib.Core.Bool.{Bool, true, false, cond, _&&_, _||_}
+use mathlib.Core.Path.{_≡_, refl, sym, ap, _∙_}
+use mathlib.Core.Bool.{Bool, true, false, cond, _||_}
 use mathlib.Core.List.{List, []}
 use Prim.Native.Nat.{ℕ, zero, suc, _/_, _%_, _^_, _*_, _<_, _≤_}
 use native.Mathlib.Omega.{arith}
 use native.Mathlib.Nat.{zero-div}
 use lib.Dec.{eqb}
 use lib.ListN.{length, getD, replicate}
-use borrow.Author.Tests.{eqb-true, eqb-false, eq-eqb, ne-eqb}
-use Rattle.format.specs.Kinds.{within}
-use Rattle.checker.specs.Sets.{withAll, Registers, bit, bitIn, wordsOf, isIn, none, withRange, anyOf, registersOf}
+use borrow.Author.Tests.{eqb-true, ne-eqb}
+use Rattle.checker.specs.Sets.{withAll, bit, bitIn, wordsOf, isIn, none, withRange, anyOf, registersOf}
 use Rattle.checker.specs.declared.sets.Declared.{Declared}
-use Rattle.checker.proofs.Choices.{when-number, or-false}
+use Rattle.checker.proofs.Choices.{when-number, or-false, never}
 
 file-cases : (P : ℕ → Type 0) → P 1 → P 2 → P 3 → P 4 → P 5 → P 7
     → ((f : ℕ) → eqb f 1 ≡ false → eqb f 2 ≡ false → eqb f 3 ≡ false → eqb f 4 ≡ false → eqb f 5 ≡ false → eqb f 7 ≡ false → P f) → (f : ℕ) → P f
@@ -115,10 +114,7 @@ module _ (k : ℕ) (d e : Declared) (f first last : ℕ) (ws : List ℕ)
     (known : (eqb k 1 || eqb k 2 || eqb k 3 || eqb k 4 || eqb k 5 || eqb k 7) ≡ true)
   where
     other : (g : ℕ) → eqb g 1 ≡ false → eqb g 2 ≡ false → eqb g 3 ≡ false → eqb g 4 ≡ false → eqb g 5 ≡ false → eqb g 7 ≡ false → eqb g k ≡ false
-    other g e1 e2 e3 e4 e5 e7 = ne-eqb g k (λ q.
-        let z : false ≡ true = rw (← q, e1, e2, e3, e4, e5, e7) at known in
-        let o : _≡_ {A = ℕ} 0 1 = cc in
-        omega arith)
+    other g e1 e2 e3 e4 e5 e7 = ne-eqb g k (λ q. never (rw (← q, e1, e2, e3, e4, e5, e7) at known))
 
     pub declared-more : wordsOf e 1 ≡ cond (eqb 1 k) ws (wordsOf d 1) → wordsOf e 2 ≡ cond (eqb 2 k) ws (wordsOf d 2)
         → wordsOf e 3 ≡ cond (eqb 3 k) ws (wordsOf d 3) → wordsOf e 4 ≡ cond (eqb 4 k) ws (wordsOf d 4)

@@ -1,13 +1,13 @@
 -- What is kept of a program: after a declaration, and after an immediate, whose four words stand behind those before it.
 -- Assumes nothing.
 use mathlib.Core.Path.{_≡_, refl, sym, ap, _∙_}
-use mathlib.Core.Bool.{Bool, true, false, cond, not, _&&_, _||_}
-use mathlib.Core.List.{List, [], _∷_, _++_, append-assoc}
-use Prim.Native.Nat.{ℕ, zero, suc, _+_, _-_, _*_, _<_, _≤_, max, min}
+use mathlib.Core.Bool.{Bool, true, false, _&&_, _||_}
+use mathlib.Core.List.{List, [], _++_}
+use Prim.Native.Nat.{ℕ, zero, suc, _+_, _-_, _*_, _<_, _≤_}
 use native.Mathlib.Omega.{arith}
 use native.Mathlib.Nat.{max-eq-left, max-eq-right, min-eq-left, zero-add, suc-add}
 use lib.Dec.{eqb, leb, ltb}
-use lib.ListN.{length, getD, set, take, drop, replicate, length-take, length-append}
+use lib.ListN.{length, set, take, drop, replicate, length-take, length-append}
 use lib.Seq.{sets, sets-eq, length-sets, drop-drop, drop-at, take-at}
 use borrow.Author.Tests.{eq-eqb, ne-eqb, leb-true, ltb-true}
 use Rattle.format.specs.Kinds.{within}
@@ -17,11 +17,12 @@ use Rattle.format.specs.declared.fields.Declaration.{Declaration}
 use Rattle.blocks.specs.Nesting.{Open}
 use Rattle.checker.specs.Sets.{IN, CONST, none, isIn, withRange, registersOf}
 use Rattle.checker.specs.Rules.{declarationRule}
-use Rattle.checker.specs.Findings.{Seen, nothing, reach, withDeclaration, immediateAt, withImmediate}
+use Rattle.checker.specs.Findings.{nothing, reach, withDeclaration, immediateAt, withImmediate}
 use Rattle.checker.specs.Check.{programSeen}
 use Rattle.checker.specs.Held.{Padded}
 use Rattle.checker.specs.declared.program.Program.{Program}
 use Rattle.checker.specs.declared.sets.Declared.{Declared}
+use Rattle.checker.proofs.Choices.{never}
 
 -- ---- Declarations
 
@@ -38,8 +39,8 @@ module _ (f before end : ℕ) (d : Declaration) where
 both : (a b c : Bool) → (a && b && c) ≡ true → (b ≡ true) × (c ≡ true)
 both true true true e = (refl, refl)
 both true true false e = (refl, e)
-both true false c e = let z : _≡_ {A = ℕ} 0 1 = cc in absurd (omega arith)
-both false b c e = let z : _≡_ {A = ℕ} 0 1 = cc in absurd (omega arith)
+both true false c e = never e
+both false b c e = never e
 
 module _ (d : Declaration) (h : declarationRule d ≡ true) where
   pub rule-order : d .first ≤ d .last

@@ -8,4 +8,5 @@ pub mod Records
 pub mod Keeping
 pub mod Taking
 pub mod Walking
+pub mod Followed
 pub mod Cases

@@ -2,24 +2,22 @@
 -- below it as it was.
 -- Assumes nothing.
 use mathlib.Core.Path.{_≡_, refl, sym, ap, _∙_, subst}
-use mathlib.Core.Bool.{Bool, true, false, cond, not, _&&_, _||_}
+use mathlib.Core.Bool.{Bool, true, false, not, _&&_}
 use mathlib.Core.List.{List, [], _∷_}
 use Prim.Native.Nat.{ℕ, zero, suc, _+_, _-_, _<_, _≤_}
 use native.Mathlib.Omega.{arith}
 use native.Mathlib.Numerals.{add-one}
-use lib.Dec.{eqb, leb, ltb}
+use lib.Dec.{leb}
 use lib.ListN.{length, getD, set, drop}
 use lib.Seq.{getD-set-same, getD-set-other}
 use borrow.Author.Tests.{leb-false, not-false}
 use Rattle.format.specs.Kinds.{within}
-use Rattle.blocks.specs.Control.{Op, CASE, DEFAULT, opOf}
-use Rattle.blocks.specs.Nesting.{Open, openUif, openElse, openLoop, openSwitch, isUif, anySwitch, innermost, nestingRule, switchRule, opens, openAfter, Ruling, goes, refused, rule}
+use Rattle.blocks.specs.Control.{CASE, DEFAULT, opOf}
+use Rattle.blocks.specs.Nesting.{Open, isUif, anySwitch, innermost, nestingRule, switchRule, opens, openAfter, goes, refused, rule}
 use Rattle.checker.specs.Held.{openOf, newestFirst, blocksIn, blocksOf, topCode, topStart, topValues, Stacked, SoundBlocks}
 use Rattle.checker.specs.declared.nesting.Blocks.{Blocks}
+use Rattle.checker.proofs.Choices.{never, pred}
 use Rattle.checker.proofs.Stack.{code-cases, op-cases, label-by, blocks-length}
-
-pred : (n : ℕ) → (n ≡ 0 → ⊥) → n ≡ suc (n - 1)
-pred n h = omega arith
 
 -- ---- What lies below
 
@@ -126,16 +124,10 @@ newest-more ws x from end l h =
 relabel-case : (x : ℕ) (vs : List ℕ) (σ : List Open) (k : ℕ) → k < 5 → within 3 4 k ≡ true → openOf k (x ∷ vs) ∷ σ ≡ openAfter CASE x (openOf k vs ∷ σ)
 relabel-case x vs σ =
     code-cases (λ (k : ℕ). within 3 4 k ≡ true → openOf k (x ∷ vs) ∷ σ ≡ openAfter CASE x (openOf k vs ∷ σ)) (λ e. never e) (λ e. never e) (λ e. never e) (λ e. refl) (λ e. refl)
-  where
-    never : {A : Type 0} → false ≡ true → A
-    never e = let z : _≡_ {A = ℕ} 0 1 = cc in absurd (omega arith)
 
 relabel-default : (x : ℕ) (vs : List ℕ) (σ : List Open) (k : ℕ) → k < 5 → within 3 4 k ≡ true → openOf 4 vs ∷ σ ≡ openAfter DEFAULT x (openOf k vs ∷ σ)
 relabel-default x vs σ =
     code-cases (λ (k : ℕ). within 3 4 k ≡ true → openOf 4 vs ∷ σ ≡ openAfter DEFAULT x (openOf k vs ∷ σ)) (λ e. never e) (λ e. never e) (λ e. never e) (λ e. refl) (λ e. refl)
-  where
-    never : {A : Type 0} → false ≡ true → A
-    never e = let z : _≡_ {A = ℕ} 0 1 = cc in absurd (omega arith)
 
 pub labelled-blocks : (codes starts values : List ℕ) (n end x : ℕ) → end < length values → within 3 4 (topCode codes n) ≡ true → Stacked codes starts n end
     → blocksIn codes starts (set values end x) n (end + 1) ≡ openAfter CASE x (blocksIn codes starts values n end)
@@ -150,7 +142,7 @@ labelled-stacked codes starts (suc n) end s = (s .0, omega (arith, s .1), s .2)
 
 pub defaulted-blocks : (codes starts values : List ℕ) (n end x : ℕ) → within 3 4 (topCode codes n) ≡ true → Stacked codes starts n end
     → openOf 4 (newestFirst values (topStart starts n end) (end - topStart starts n end)) ∷ drop 1 (blocksIn codes starts values n end) ≡ openAfter DEFAULT x (blocksIn codes starts values n end)
-defaulted-blocks codes starts values zero end x t s = let z : _≡_ {A = ℕ} 0 1 = cc in absurd (omega arith)
+defaulted-blocks codes starts values zero end x t s = never t
 defaulted-blocks codes starts values (suc n) end x t s =
     relabel-default x (newestFirst values (getD starts n 0) (end - getD starts n 0)) (blocksIn codes starts values n (getD starts n 0)) (getD codes n 0) (s .0) t
 
@@ -165,10 +157,7 @@ unfolding opOf
 case-top b values kind = switch-on-top b values 0x92 kind (λ σ. refl)
 
 none-refused : (b : Blocks) (values : List ℕ) (f : Open → Bool) → innermost f (blocksOf b values) ≡ true → b .depth ≡ 0 → ⊥
-none-refused b values f h e =
-    let g : false ≡ true = rw e at h in
-    let z : _≡_ {A = ℕ} 0 1 = cc in
-    omega arith
+none-refused b values f h e = never (rw e at h)
 
 module _ (b : Blocks) (values : List ℕ) (kind : ℕ) (kept : nestingRule (opOf kind) (blocksOf b values) ≡ true) where
   pub else-open : kind ≡ 0x81 → b .depth ≡ 0 → ⊥
@@ -199,7 +188,7 @@ after-others kind x σ =
     (λ a b c d e f g h i. absurd (d refl)) (λ a b c d e f g h i. refl) (λ a b c d e f g h i. refl)
     (λ a b c d e f g h i. absurd (e refl)) (λ a b c d e f g h i. absurd (f refl)) (λ a b c d e f g h i. refl)
     (λ a b c d e f g h i. absurd (g refl)) (λ a b c d e f g h i. absurd (h refl)) (λ a b c d e f g h i. absurd (i refl))
-    (λ k plain _ _ _ a b c d e f g h i. rw plain refl) kind
+    (λ k plain _ _ _ _ a b c d e f g h i. rw plain refl) kind
 
 -- ---- What the rule says
 

@@ -3,17 +3,18 @@
 use mathlib.Core.Path.{_≡_, refl, sym, ap, _∙_}
 use mathlib.Core.Bool.{Bool, true, false, cond, not, _&&_, _||_}
 use mathlib.Core.List.{List}
-use Prim.Native.Nat.{ℕ, zero, suc, _+_, _-_, _*_, _/_}
+use Prim.Native.Nat.{ℕ, suc, _+_, _-_, _*_, _/_}
 use native.Mathlib.Omega.{arith}
-use lib.Dec.{eqb, leb, ltb}
+use lib.Dec.{eqb, ltb}
 use borrow.Author.Tests.{eq-eqb, ne-eqb, not-true, not-false}
-use Rattle.format.specs.Kinds.{Form, declaration, immediate, instruction, unknown, formOf, bodyOf, lengthOf, within}
+use Rattle.format.specs.Kinds.{Form, immediate, instruction, unknown, formOf, bodyOf, lengthOf, within}
 use Rattle.format.specs.Fields.{destinationAt, sourceAt}
 use Rattle.format.specs.declared.fields.Destination.{Destination}
 use Rattle.format.specs.declared.fields.Source.{Source}
 use Rattle.checker.specs.Sets.{Registers, ADDR, MEM, anyOf, registersOf}
 use Rattle.checker.specs.Rules.{destinations, sources, memoryKind, destinationFile, allSources, allOperands}
 use Rattle.checker.specs.Findings.{destinationFound, sourceFound, operandsFound}
+use Rattle.checker.proofs.Choices.{never}
 
 -- ---- How many, by the length of the body
 
@@ -61,9 +62,7 @@ module _ (n k m : ℕ) (body : m ≡ lengthOf k) (is : m ≡ n) where
   unfolding lengthOf
   not-declaration h q =
       let e : n ≡ 5 = sym is ∙ body ∙ ap lengthOf q in
-      let f : eqb n 5 ≡ true = eq-eqb n 5 e in
-      let z : _≡_ {A = ℕ} 0 1 = cc in
-      omega arith
+      never (sym h ∙ eq-eqb n 5 e)
 
   pub destinations-by : eqb n 5 ≡ false → destinationsBy n ≡ destinations (formOf k)
   destinations-by h = ap destinationsBy (sym is ∙ body) ∙ by-length k (not-declaration h) .0

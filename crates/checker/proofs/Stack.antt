@@ -2,32 +2,32 @@
 -- codes.
 -- Assumes nothing.
 use mathlib.Core.Path.{_≡_, refl, sym, ap, _∙_, subst}
-use mathlib.Core.Bool.{Bool, true, false, cond, not, _&&_, _||_}
-use mathlib.Core.List.{List, [], _∷_}
+use mathlib.Core.Bool.{Bool, true, false, not, _&&_, _||_}
+use mathlib.Core.List.{List}
 use Prim.Native.Nat.{ℕ, zero, suc, _+_, _-_, _<_, _≤_}
 use native.Mathlib.Omega.{arith}
-use lib.Dec.{eqb, leb, ltb}
+use lib.Dec.{eqb}
 use lib.ListN.{length, getD}
 use borrow.Author.Tests.{eq-eqb, ne-eqb}
 use Rattle.format.specs.Kinds.{within}
-use Rattle.blocks.specs.Control.{Op, PLAIN, opOf}
-use Rattle.blocks.specs.Nesting.{Open, openUif, openElse, openLoop, openSwitch, isUif, isElse, isLoop, isSwitch, anySwitch, some, innermost, nestingRule, switchRule, opens, openAfter}
+use Rattle.blocks.specs.Control.{PLAIN, opOf}
+use Rattle.blocks.specs.Nesting.{Open, isUif, isElse, isLoop, isSwitch, anySwitch, some, innermost, nestingRule, switchRule, opens}
 use Rattle.checker.specs.Held.{openOf, newestFirst, blocksIn, blocksOf, topCode, topStart, topValues, someCode, Stacked, SoundBlocks}
 use Rattle.checker.specs.declared.nesting.Blocks.{Blocks}
-use Rattle.checker.proofs.Choices.{when-number}
+use Rattle.checker.proofs.Choices.{when-number, and-true, and-false, pred}
 
 -- ---- Kinds
 
 -- A property of every kind, from the twelve that steer and the others.
 pub op-cases : (P : ℕ → Type 0) → P 0x81 → P 0x82 → P 0x83 → P 0x84 → P 0x85 → P 0x86 → P 0x87 → P 0x88 → P 0x89 → P 0x90 → P 0x91 → P 0x92
-    → ((k : ℕ) → opOf k ≡ PLAIN → eqb k 0x83 ≡ false → eqb k 0x90 ≡ false → eqb k 0x91 ≡ false → P k) → (k : ℕ) → P k
+    → ((k : ℕ) → opOf k ≡ PLAIN → eqb k 0x83 ≡ false → eqb k 0x89 ≡ false → eqb k 0x90 ≡ false → eqb k 0x91 ≡ false → P k) → (k : ℕ) → P k
 unfolding opOf
 op-cases P p81 p82 p83 p84 p85 p86 p87 p88 p89 p90 p91 p92 plain k =
     when-number P 0x81 p81 k (λ e81. when-number P 0x82 p82 k (λ e82. when-number P 0x83 p83 k (λ e83.
     when-number P 0x84 p84 k (λ e84. when-number P 0x85 p85 k (λ e85. when-number P 0x86 p86 k (λ e86.
     when-number P 0x87 p87 k (λ e87. when-number P 0x88 p88 k (λ e88. when-number P 0x89 p89 k (λ e89.
     when-number P 0x90 p90 k (λ e90. when-number P 0x91 p91 k (λ e91. when-number P 0x92 p92 k (λ e92.
-    plain k (others e81 e82 e83 e84 e85 e86 e87 e88 e89 e90 e91 e92) e83 e90 e91))))))))))))
+    plain k (others e81 e82 e83 e84 e85 e86 e87 e88 e89 e90 e91 e92) e83 e89 e90 e91))))))))))))
   where
     others : eqb k 0x81 ≡ false → eqb k 0x82 ≡ false → eqb k 0x83 ≡ false → eqb k 0x84 ≡ false → eqb k 0x85 ≡ false → eqb k 0x86 ≡ false
         → eqb k 0x87 ≡ false → eqb k 0x88 ≡ false → eqb k 0x89 ≡ false → eqb k 0x90 ≡ false → eqb k 0x91 ≡ false → eqb k 0x92 ≡ false → opOf k ≡ PLAIN
@@ -125,27 +125,24 @@ nested-anyway β kind values =
     (λ a b c d e f g h i. absurd (c refl)) (λ a b c d e f g h i. absurd (d refl)) (λ a b c d e f g h i. absurd (e refl))
     (λ a b c d e f g h i. absurd (f refl)) (λ a b c d e f g h i. absurd (g refl)) (λ a b c d e f g h i. absurd (h refl))
     (λ a b c d e f g h i. refl) (λ a b c d e f g h i. refl) (λ a b c d e f g h i. absurd (i refl))
-    (λ k plain _ _ _ a b c d e f g h i. rw plain refl) kind
+    (λ k plain _ _ _ _ a b c d e f g h i. rw plain refl) kind
 
 -- ---- What the code reads
 
 module _ (n : ℕ) where
-  pred : (n ≡ 0 → ⊥) → n ≡ suc (n - 1)
-  pred h = omega arith
-
   module _ (codes : List ℕ) (lo hi : ℕ) where
     pub no-code : n ≡ 0 → within lo hi 5 ≡ within lo hi (topCode codes n)
     no-code z = rw z refl
 
     pub top-code : (n ≡ 0 → ⊥) → within lo hi (getD codes (n - 1) 0) ≡ within lo hi (topCode codes n)
-    top-code h = ap (λ (m : ℕ). within lo hi (topCode codes m)) (sym (pred h))
+    top-code h = ap (λ (m : ℕ). within lo hi (topCode codes m)) (sym (pred n h))
 
     module _ (w : Bool) (whole : w ≡ someCode lo hi codes n) where
       pub code-found : (n ≡ 0 → ⊥) → within lo hi (getD codes (n - 1) 0) ≡ true → true ≡ w
-      code-found h t = sym (whole ∙ ap (someCode lo hi codes) (pred h) ∙ rw t)
+      code-found h t = sym (whole ∙ ap (someCode lo hi codes) (pred n h) ∙ rw t)
 
       pub code-on : (n ≡ 0 → ⊥) → within lo hi (getD codes (n - 1) 0) ≡ false → w ≡ someCode lo hi codes (n - 1)
-      code-on h t = whole ∙ ap (someCode lo hi codes) (pred h) ∙ rw t
+      code-on h t = whole ∙ ap (someCode lo hi codes) (pred n h) ∙ rw t
 
       pub code-end : n ≡ 0 → false ≡ w
       code-end z = sym (whole ∙ rw z)
@@ -155,32 +152,24 @@ module _ (n : ℕ) where
     no-start z = rw z refl
 
     pub top-start : (n ≡ 0 → ⊥) → getD starts (n - 1) 0 ≡ topStart starts n end
-    top-start h = ap (λ (m : ℕ). topStart starts m end) (sym (pred h))
+    top-start h = ap (λ (m : ℕ). topStart starts m end) (sym (pred n h))
 
     pub start-below : (codes : List ℕ) → (n ≡ 0 → ⊥) → Stacked codes starts n end → getD starts (n - 1) 0 ≤ end
     start-below codes h s =
-        let t : Stacked codes starts (suc (n - 1)) end = subst (λ (m : ℕ). Stacked codes starts m end) (pred h) s in
+        let t : Stacked codes starts (suc (n - 1)) end = subst (λ (m : ℕ). Stacked codes starts m end) (pred n h) s in
         t .1
 
   module _ (ws : List ℕ) (from x : ℕ) (w : Bool) (whole : w ≡ some (eqb x) (newestFirst ws from n)) where
     pub value-found : (n ≡ 0 → ⊥) → x ≡ getD ws (from + (n - 1)) 0 → true ≡ w
-    value-found h e = sym (whole ∙ ap (λ (m : ℕ). some (eqb x) (newestFirst ws from m)) (pred h) ∙ rw (eq-eqb x _ e))
+    value-found h e = sym (whole ∙ ap (λ (m : ℕ). some (eqb x) (newestFirst ws from m)) (pred n h) ∙ rw (eq-eqb x _ e))
 
     pub value-on : (n ≡ 0 → ⊥) → (x ≡ getD ws (from + (n - 1)) 0 → ⊥) → w ≡ some (eqb x) (newestFirst ws from (n - 1))
-    value-on h e = whole ∙ ap (λ (m : ℕ). some (eqb x) (newestFirst ws from m)) (pred h) ∙ rw (ne-eqb x _ e)
+    value-on h e = whole ∙ ap (λ (m : ℕ). some (eqb x) (newestFirst ws from m)) (pred n h) ∙ rw (ne-eqb x _ e)
 
     pub value-end : n ≡ 0 → false ≡ w
     value-end z = sym (whole ∙ rw z)
 
 -- ---- The rules of a SWITCH
-
-and-true : (a : Bool) → (a && true) ≡ a
-and-true true = refl
-and-true false = refl
-
-and-false : (a : Bool) → (a && false) ≡ false
-and-false true = refl
-and-false false = refl
 
 length-newest : (ws : List ℕ) (from n : ℕ) → length (newestFirst ws from n) ≡ n
 length-newest ws from zero = refl
@@ -237,10 +226,10 @@ module _ (b : Blocks) (sound : SoundBlocks b) (kind x : ℕ) (values : List ℕ)
         plainly =
             op-cases (λ (k : ℕ). (k ≡ 0x87 → ⊥) → (k ≡ 0x88 → ⊥) → (k ≡ 0x92 → ⊥) → not (innermost (isSwitch (λ vs d. eqb (length vs) 0 && not d)) (blocksOf b values)) ≡ switchRule (opOf k) x (blocksOf b values))
             (λ a b c. refl) (λ a b c. refl) (λ a b c. refl) (λ a b c. refl) (λ a b c. refl) (λ a b c. refl) (λ a b c. absurd (a refl))
-            (λ a b c. absurd (b refl)) (λ a b c. refl) (λ a b c. refl) (λ a b c. refl) (λ a b c. absurd (c refl)) (λ k plain _ _ _ a b c. rw plain refl)
+            (λ a b c. absurd (b refl)) (λ a b c. refl) (λ a b c. refl) (λ a b c. refl) (λ a b c. absurd (c refl)) (λ k plain _ _ _ _ a b c. rw plain refl)
 
 pub opens-by : (kind : ℕ) → (eqb kind 0x90 || eqb kind 0x83 || eqb kind 0x91) ≡ opens (opOf kind)
 unfolding opOf
 opens-by =
     op-cases (λ (k : ℕ). (eqb k 0x90 || eqb k 0x83 || eqb k 0x91) ≡ opens (opOf k)) refl refl refl refl refl refl refl refl refl refl refl refl
-    (λ k plain loop uif switch. rw (plain, loop, uif, switch))
+    (λ k plain loop end uif switch. rw (plain, loop, uif, switch))

@@ -5,17 +5,17 @@ use mathlib.Core.Bool.{Bool, true, false, cond, not}
 use mathlib.Core.List.{List, []}
 use Prim.Native.Nat.{ℕ, _+_, _*_, _<_, _≤_}
 use native.Mathlib.Omega.{arith}
-use lib.Dec.{eqb, leb, ltb}
+use lib.Dec.{eqb, leb}
 use lib.ListN.{length, getD, take}
 use borrow.Author.Tests.{eq-eqb, ne-eqb, le-leb, lt-leb, leb-false, not-false}
 use Rattle.format.specs.Records.{sizeAt}
 use Rattle.format.specs.Fields.{caseWord}
 use Rattle.format.proofs.Walk.{size-fits}
 use Rattle.blocks.specs.Control.{opOf}
-use Rattle.blocks.specs.Nesting.{Open, Ruling, goes, refused, rule}
+use Rattle.blocks.specs.Nesting.{goes, refused, rule}
 use Rattle.checker.specs.Rules.{operandRules}
 use Rattle.checker.specs.Sets.{isIn}
-use Rattle.checker.specs.Findings.{Seen, nothing, Finding, taken, due, operandsFound, withInstruction, nested, instructionFinding}
+use Rattle.checker.specs.Findings.{nothing, Finding, due, operandsFound, withInstruction, nested, instructionFinding}
 use Rattle.checker.specs.Check.{programSeen}
 use Rattle.checker.specs.Held.{Stacked, blocksOf, rulingOf, seen, findingOf, operandRefusal, instructed, takenBy, takenOf, Padded, SoundBlocks, Sound}
 use Rattle.checker.specs.declared.nesting.Blocks.{Blocks}

@@ -1,17 +1,16 @@
 -- The walk over the records: what is left to check from a place on is the whole check, and each way out of a turn is one law.
 -- Assumes nothing.
 use mathlib.Core.Path.{_≡_, refl, sym, ap, _∙_, subst}
-use mathlib.Core.Bool.{Bool, true, false, cond, not, _&&_, _||_}
+use mathlib.Core.Bool.{Bool, true, false, cond, not}
 use mathlib.Core.List.{List, [], _∷_, _++_}
 use Prim.Native.Nat.{ℕ, zero, suc, _+_, _-_, _*_, _<_, _≤_}
 use native.Mathlib.Omega.{arith}
 use lib.Dec.{eqb, leb, ltb, eqb·suc-zero}
 use lib.ListN.{length, getD, take, replicate, take-append-drop}
-use borrow.Author.Tests.{lt-ltb, le-ltb, lt-leb, leb-false, eq-eqb, ne-eqb, eqb-false, not-true}
+use borrow.Author.Tests.{lt-ltb, le-ltb, leb-false, eq-eqb, ne-eqb, eqb-false}
 use Rattle.format.specs.Kinds.{lengthOf}
 use Rattle.format.specs.Records.{longest, sizeAt}
 use Rattle.format.specs.Fields.{caseWord}
-use Rattle.format.proofs.Walk.{size-fits}
 use Rattle.blocks.specs.Control.{opOf}
 use Rattle.blocks.specs.Nesting.{Open, Ruling, goes, rule}
 use Rattle.blocks.specs.Nesting as nesting
@@ -30,11 +29,11 @@ use Rattle.checker.proofs.Keeping.{count-words}
 
 -- ---- A record that is taken
 
-due-not-taken : {A : Type 0} {n : ℕ} {u : Seen} → due n ≡ taken u → A
+pub due-not-taken : {A : Type 0} {n : ℕ} {u : Seen} → due n ≡ taken u → A
 due-not-taken e = let z : _≡_ {A = ℕ} 0 1 = cc in absurd (omega arith)
 
 -- A refusal that is not due lets the rest of the chain be taken.
-past-due : (t : Bool) (n : ℕ) (f : Finding) (u : Seen) → cond t (due n) f ≡ taken u → (t ≡ false) × (f ≡ taken u)
+pub past-due : (t : Bool) (n : ℕ) (f : Finding) (u : Seen) → cond t (due n) f ≡ taken u → (t ≡ false) × (f ≡ taken u)
 past-due true n f u e = due-not-taken e
 past-due false n f u e = (refl, e)
 
@@ -178,11 +177,15 @@ module _ (file : List ℕ) (at : ℕ) (s : Seen) (going : Going file at s) where
   walk-past zero h = refl
   walk-past (suc k) h = rw (le-ltb at (length file) h)
 
-  pub walk-end : length file ≤ at → refused 13 (length file) ≡ checkOf file
+  walk-end : length file ≤ at → refused 13 (length file) ≡ checkOf file
   walk-end h = sym (walk-past (going .left) h) ∙ going .whole
 
-  pub walk-end-told : length file ≤ at → breaks 13 (length file) ≡ toldOf (checkOf file)
-  walk-end-told h = ap toldOf (walk-end h)
+  module _ (v : Verdict) (is : v ≡ Refused 13 (length file)) (h : length file ≤ at) where
+    pub ends-so : (p : Program) (words : List ℕ) → concluded v (programSeen p words []) ≡ checkOf file
+    ends-so p words = rw is (walk-end h)
+
+    pub ends-told : told v ≡ toldOf (checkOf file)
+    ends-told = rw is (ap toldOf (walk-end h))
 
   module _ (h : at < length file) where
     by-turn : onward (recordFinding s file at) file at (λ u. walk (going .left - 1) file (at + sizeAt file at) u) ≡ checkOf file

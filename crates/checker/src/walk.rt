@@ -18,6 +18,7 @@ ghost use Rattle.blocks.specs.Control.{opOf};
 ghost use Rattle.blocks.specs.Nesting.{rule};
 ghost use Rattle.checker.specs.Findings.{nothing, nested, declarationFinding, immediateFinding, instructionFinding, recordFinding};
 ghost use Rattle.checker.specs.Check.{checkOf, told, toldOf, outcome};
+ghost use Rattle.checker.specs.declared.Verdict.the-variants.{Refused};
 ghost use Rattle.checker.specs.Held.{blocksOf, seen, findingOf, operandRefusal, takenOf, endOf, Turned, Sound, Padded};
 
 // What the checker knows after some records.
@@ -239,6 +240,14 @@ fn end_verdict(instructions: u32, at: usize, end: usize) -> Verdict
     Verdict::Accepted(instructions)
 }
 
+// What a file of this length comes to that ends without END.
+fn unended(end: usize) -> Verdict
+    requires { ⌜ end ≤ 65536 ⌝ }
+    ensures { λ r. ⌜ r ≡ Refused 13 end ⌝ }
+{
+    Verdict::Refused(13, end as u32)
+}
+
 // The record at a place, and how the walk goes on after it.
 fn take_turn(s: State, file: &[u8], at: usize, words: &mut [u32], values: &mut [u32]) -> Turn
     requires { ⌜ Sound s × (at < length (now file)) × (length (now file) ≤ 65536) × Padded (s .program .immediates) (now words) × (length (now values) ≡ 1024) ⌝ }
@@ -295,7 +304,7 @@ pub fn walk(file: &[u8], words: &mut [u32], values: &mut [u32]) -> Checked
     }
     let program = s.program;
     Checked {
-        verdict: Verdict::Refused(13, end as u32),
+        verdict: unended(end),
         program,
     }
 }

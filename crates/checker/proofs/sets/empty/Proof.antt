@@ -1,5 +1,4 @@
 -- Words that are 0 have no bit set.
-use borrow.Author.Needs.{needs}
 use mathlib.Core.Path.{refl}
 use Rattle.checker.proofs.Files.{no-bits}
 use Rattle.checker.proofs.sets.empty.Statement.{statement}

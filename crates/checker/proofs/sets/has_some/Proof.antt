@@ -1,6 +1,6 @@
 -- The words before i are 0, so a bit is set from word i on where one is set at all.
 use borrow.Author.Needs.{needs}
-use mathlib.Core.Path.{_≡_, refl}
+use mathlib.Core.Path.{_≡_}
 use Prim.Native.Nat.{_*_, _-_}
 use native.Mathlib.Nat.{sub-zero}
 use lib.ListN.{length}

@@ -1,8 +1,8 @@
 -- The bits from first on, below i, are set.
 use borrow.Author.Needs.{needs}
 use native.Mathlib.Omega.{arith}
-use mathlib.Core.Path.{_≡_, refl}
-use Prim.Native.Nat.{_+_, _-_, _*_, _<_, _≤_}
+use mathlib.Core.Path.{_≡_}
+use Prim.Native.Nat.{_+_, _-_, _≤_}
 use lib.ListN.{length}
 use Rattle.checker.proofs.Bits.{below, none-yet, more-below, all-below}
 use Rattle.checker.specs.Sets.{bitIn}

@@ -6,7 +6,7 @@ use lib.ListN.{length}
 use Rattle.format.proofs.Walk.{walk-fits, size-fits-by}
 use Rattle.checker.specs.Held.{seen, Sound, Padded}
 use Rattle.checker.proofs.Taking.{padded-same}
-use Rattle.checker.proofs.Walking.{Going, check-long, check-long-told, check-start, walk-stops, walk-tells, walk-goes, walk-less, walk-end, walk-end-told}
+use Rattle.checker.proofs.Walking.{Going, check-long, check-long-told, check-start, walk-stops, walk-tells, walk-goes, walk-less, ends-so, ends-told}
 use Rattle.checker.proofs.walk.walk.Statement.{statement}
 use Rattle.checker.proofs.walk.walk.Tie as tie
 
@@ -34,5 +34,6 @@ walk-spec =
     (λ c. search (needs, walk-fits))
     (λ c. search (needs, walk-less))
     (λ c. (search (needs, walk-goes), search needs, search needs, search needs, search needs, search needs, search (needs, size-fits-by), search needs))
-    (search needs) (search needs) (search needs)
-    (λ c. (search (needs, walk-end), (search (needs, walk-end-told), (search needs, search needs)))))
+    (λ c κs. search needs)
+    (search needs) (search needs)
+    (λ c. (search (needs, ends-so), (search (needs, ends-told), (search needs, search needs)))))
