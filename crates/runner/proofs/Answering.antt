@@ -26,6 +26,7 @@ use Rattle.checker.specs.Check.{accepted, refused, checkOf, programSeen, outcom
 use Rattle.checker.specs.Check as check
 use Rattle.checker.specs.Findings.{Seen}
 use Rattle.checker.specs.Sets.{isIn}
+use Rattle.checker.proofs.Followed.{followed}
 use Rattle.machine.specs.Effect.{state}
 use Rattle.machine.specs.Operands.{Env, State}
 use Rattle.machine.specs.Step.{machineOf}
@@ -33,7 +34,6 @@ use Rattle.runner.specs.declared.Outcome.{Outcome}
 use Rattle.runner.specs.Answers.{Answer, refusal, ready, end, halt, runAnswer, stepsOf, Result, after, prepareAfter}
 use Rattle.runner.specs.Steps.{reached, byRows, StaysInside, Came, Ready, seenOf, Taken, Ran}
 use Rattle.runner.specs.Whole.{askedIndirectly, placeOf, listsOf, envOf, programOf, preparedIn, prepareAccepted, prepareOf, workShort, lentRefusal, cleared, reported, carriedOut, runAccepted, runOf}
-use Rattle.runner.proofs.Accepted.{accepted-short, accepted-begins, accepted-few, accepted-nests}
 use Rattle.runner.proofs.Demand.{run-reads, stays-inside}
 
 -- What the check says of the program that it takes.
@@ -45,12 +45,8 @@ pub record Follows (s : Seen) (file : List ℕ) : Type 0 where
 
 follows : (file : List ℕ) (s : Seen) → checkOf file ≡ accepted s → Follows s file
 follows file s ok =
-    record {
-      short = accepted-short file s ok;
-      begins = accepted-begins file s ok;
-      few = accepted-few file s ok;
-      nests = accepted-nests file s ok;
-    }
+    let f = followed file s ok in
+    record { short = f .0; begins = omega (arith, f .1 .starts); few = f .1 .most; nests = f .1 .nested }
 
 -- The table of a file that the check took is made.
 table-made : (s : Seen) (file work : List ℕ) → Follows s file → rowWords * s .instructions ≤ length work → filled file (s .start) (s .instructions) work ≡ preparedIn s file work

@@ -5,4 +5,3 @@ pub mod Demand
 pub mod Indirect
 pub mod Answering
 mod Cases
-pub mod Accepted
