@@ -13,6 +13,7 @@ use Rattle.format.specs.declared.fields.Destination.{Destination}
 use Rattle.format.specs.declared.fields.Source.{Source}
 use Rattle.format.specs.declared.fields.Declaration.{Declaration}
 use Rattle.blocks.specs.Control.{opOf}
+use Rattle.blocks.specs.Run.{mostInstructions}
 use Rattle.blocks.specs.Nesting.{Open, Ruling, goes, refused, rule}
 use Rattle.checker.specs.Sets.{Registers, none, withRange, anyOf, registersOf, CONST, IN, ADDR, IMM, MEM}
 use Rattle.checker.specs.Rules.{indirect, memoryKind, allOperands, operandRules, declarationRule}
@@ -38,9 +39,6 @@ pub data Finding : Type 0 where
   due : ℕ → Finding
 
 -- "1,025th instruction or 257th immediate"
-abbrev pub mostInstructions : ℕ
-mostInstructions = 1024
-
 abbrev pub mostImmediates : ℕ
 mostImmediates = 256
 

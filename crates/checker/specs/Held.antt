@@ -8,6 +8,7 @@ use lib.Dec.{eqb, leb, ltb}
 use lib.ListN.{length, getD, drop, replicate}
 use Rattle.format.specs.Kinds.{within}
 use Rattle.format.specs.Records.{sizeAt}
+use Rattle.blocks.specs.Run.{mostInstructions}
 use Rattle.blocks.specs.Nesting.{Open, openUif, openElse, openLoop, openSwitch, Ruling, goes, refused, mostOpen}
 use Rattle.checker.specs.Sets.{isIn}
 use Rattle.checker.specs.Rules.{operandRules}

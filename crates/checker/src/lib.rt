@@ -4,11 +4,11 @@ ghost use mathlib.Core.Path.{_≡_};
 ghost use Prim.Native.Nat.{_≤_};
 ghost use Rattle.checker.specs.Check.{checkOf, told, toldOf, outcome, wordsAfter};
 
-pub mod nesting;
-pub mod operands;
+mod nesting;
+mod operands;
 pub mod program;
 pub mod sets;
-pub mod walk;
+mod walk;
 
 // What is said of a file.
 pub enum Verdict {

@@ -5,7 +5,7 @@ ghost use Rattle.format.specs.Kinds.{lengthOf};
 // What the table holds for an unknown kind.
 pub const UNKNOWN: u8 = 255;
 
-// "Body length comes from a table of 256 entries, one per kind byte, unknown kinds marked." Sixteen kinds a line.
+// "Body length comes from a table of 256 entries, one per kind byte, unknown kinds marked." One kind a line, from 0.
 const LENGTHS: [u8; 256] = [
     255,
     5,

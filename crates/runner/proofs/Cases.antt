@@ -1,10 +1,10 @@
 -- The thirteen small cases of document 01, as one list with a single statement about the definitions that the contracts cite.
 -- Assumes nothing.
-use mathlib.Core.Path.{_≡_, ap}
+use mathlib.Core.Path.{_≡_, refl}
 use mathlib.Core.List.{List, [], _∷_, _++_}
 use Prim.Native.Nat.{ℕ}
 use lib.ListN.{getD, take, replicate}
-use Rattle.words.proofs.Cases as words
+use Rattle.words.specs.Word.{signed, word, lsb, umsb, imsb, least, greatest, outside, ubfe, ibfe, bfi}
 use Rattle.format.specs.Kinds.{lengthOf}
 use Rattle.format.specs.Fields.{word16, word32, destinationAt, sourceAt, declarationAt, caseWord}
 use Rattle.format.specs.Records.{sizeAt, next, placeFrom}
@@ -17,7 +17,7 @@ use Rattle.checker.specs.Check.{walk, checkOf}
 use Rattle.checker.specs.Findings.{withDeclaration, declarationFinding, withImmediate, immediateFinding, sourceFound, operandsFound, withInstruction, instructionFinding, recordFinding}
 use Rattle.checker.specs.Rules.{destinationRule, sourceRule, allOperands, declarationRule}
 use Rattle.machine.specs.Operands.{components, fileWords, registerOf, taken, sourceOf, ifMasked, masked, firstWord, written}
-use Rattle.machine.specs.Arithmetic.{unary, unaryOf}
+use Rattle.machine.specs.Arithmetic.{unary, unaryOf, binary, ternary, wide, halves, countOr, wideOf, bfiOf}
 use Rattle.machine.specs.Effect.{operandsOf, familyOf, recordEffect}
 use Rattle.machine.specs.Step.{testOf}
 use Rattle.runner.specs.Answers.{Answer, refusal, ready, end, halt, Result}
@@ -50,6 +50,21 @@ numbers (ready instructions) = 3 ∷ instructions ∷ []
 shown : Result → List ℕ
 shown r = numbers (r .answer) ++ take 2 (r .lent .registers)
 
+-- Cases 1 to 10, by the kinds of the instructions.
+instructions : List (List ℕ)
+instructions =
+    (binary 0x20 0xFFFF_FFFF 1 ∷ [])
+    ∷ (binary 0x32 0x8000_0000 0 ∷ binary 0x33 0x8000_0000 0 ∷ [])
+    ∷ (binary 0x24 0x8000_0000 0xFFFF_FFFF ∷ binary 0x26 0x8000_0000 0xFFFF_FFFF ∷ [])
+    ∷ (binary 0x25 7 0 ∷ binary 0x24 7 0 ∷ [])
+    ∷ (binary 0x2F 1 33 ∷ [])
+    ∷ (ternary 0x63 0xABCD 4 8 ∷ ternary 0x62 0xABCD 4 8 ∷ ternary 0x63 0xABCD 30 3 ∷ [])
+    ∷ take 1 (bfiOf (0xFFFF_FFFF ∷ []) (0 ∷ []) (8 ∷ []) (8 ∷ []))
+    ∷ (unary 0x18 0xFFFF_FFFE ∷ unary 0x19 1 ∷ unary 0x17 8 ∷ [])
+    ∷ take 2 (wideOf 0x40 (0xFFFF_FFFF ∷ 0 ∷ []) (1 ∷ 0 ∷ []))
+    ∷ (binary 0x23 0xFFFF_FFFF 0xFFFF_FFFF ∷ binary 0x22 0xFFFF_FFFF 0xFFFF_FFFF ∷ [])
+    ∷ []
+
 -- Cases 11 to 13: the empty file; the 34 bytes with their table and the budgets 2, 1 and 0; the BRK in a SWITCH in a loop.
 runs : List (List ℕ)
 runs =
@@ -61,9 +76,18 @@ runs =
     ∷ shown (ran file13 100)
     ∷ []
 
--- All thirteen: the first ten, which are of words, and these.
-cases : (words.results ∷ runs)
-    ≡ words.expected
+-- All thirteen, in their order.
+cases : instructions ++ runs
+    ≡ (0 ∷ [])
+    ∷ (0xFFFF_FFFF ∷ 0 ∷ [])
+    ∷ (0x8000_0000 ∷ 0 ∷ [])
+    ∷ (0xFFFF_FFFF ∷ 0 ∷ [])
+    ∷ (2 ∷ [])
+    ∷ (0xBC ∷ 0xFFFF_FFBC ∷ 0 ∷ [])
+    ∷ (0xFFFF_00FF ∷ [])
+    ∷ (0 ∷ 0 ∷ 3 ∷ [])
+    ∷ (0 ∷ 1 ∷ [])
+    ∷ (0xFFFF_FFFE ∷ 0 ∷ [])
     ∷ (2 ∷ 13 ∷ 0 ∷ [])
     ∷ (23 ∷ 0 ∷ 0 ∷ 33 ∷ 0 ∷ 0 ∷ 9 ∷ 9 ∷ 9 ∷ [])
     ∷ (0 ∷ 2 ∷ 25 ∷ 0 ∷ [])
@@ -71,5 +95,5 @@ cases : (words.results ∷ runs)
     ∷ (1 ∷ 0 ∷ 0 ∷ 0 ∷ 0 ∷ [])
     ∷ (0 ∷ 5 ∷ 0 ∷ 0 ∷ [])
     ∷ []
-unfolding file12 file13 ran numbers shown runs lengthOf word16 word32 destinationAt sourceAt declarationAt caseWord sizeAt next placeFrom opOf listFrom tableWords read past rounds reading firstLabel rows table wordsOf walk checkOf withDeclaration declarationFinding withImmediate immediateFinding sourceFound operandsFound withInstruction instructionFinding recordFinding destinationRule sourceRule allOperands declarationRule components fileWords registerOf taken sourceOf ifMasked masked firstWord written unary unaryOf operandsOf familyOf recordEffect testOf lentRefusal cleared carriedOut runAccepted runOf
-cases = ap (λ first. first ∷ runs) words.cases
+unfolding instructions file12 file13 ran numbers shown runs lengthOf word16 word32 destinationAt sourceAt declarationAt caseWord sizeAt next placeFrom opOf listFrom tableWords read past rounds reading firstLabel rows table wordsOf walk checkOf withDeclaration declarationFinding withImmediate immediateFinding sourceFound operandsFound withInstruction instructionFinding recordFinding destinationRule sourceRule allOperands declarationRule components fileWords registerOf taken sourceOf ifMasked masked firstWord written unary unaryOf operandsOf familyOf recordEffect testOf lentRefusal cleared carriedOut runAccepted runOf binary ternary wide halves countOr wideOf bfiOf signed word lsb umsb imsb least greatest outside ubfe ibfe bfi
+cases = refl
