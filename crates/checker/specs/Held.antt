@@ -12,7 +12,7 @@ use Rattle.blocks.specs.Run.{mostInstructions}
 use Rattle.blocks.specs.Nesting.{Open, openUif, openElse, openLoop, openSwitch, Ruling, goes, refused, mostOpen}
 use Rattle.checker.specs.Sets.{isIn}
 use Rattle.checker.specs.Rules.{operandRules}
-use Rattle.checker.specs.Findings.{Seen, Finding, taken, due, mostInstructions, mostImmediates, operandsFound, recordFinding}
+use Rattle.checker.specs.Findings.{Seen, Finding, taken, due, mostImmediates, operandsFound, recordFinding}
 use Rattle.checker.specs.Check.{Outcome, onward, programSeen, concluded}
 use Rattle.checker.specs.declared.Verdict.{Verdict}
 use Rattle.checker.specs.declared.Verdict.the-variants.{Accepted, Refused}
