@@ -4,7 +4,7 @@ use Prim.Native.Nat.{ℕ, zero, suc, _+_, _*_, _/_, _%_}
 use mathlib.Core.List.{List}
 use mathlib.Core.Bool.{Bool, true, cond, not, _&&_, _||_}
 use lib.Dec.{eqb, leb, ltb}
-use Rattle.format.specs.Kinds.{Form, declaration, immediate, instruction, unknown, formOf, within}
+use Rattle.format.specs.Kinds.{destinations, sources, formOf, within}
 use Rattle.format.specs.Fields.{destinationAt, sourceAt}
 use Rattle.format.specs.declared.fields.Destination.{Destination}
 use Rattle.format.specs.declared.fields.Source.{Source}
@@ -77,19 +77,6 @@ sourceRule kind s =
     && (not (eqb kind CASE) || eqb (s .file) IMM && eqb (s .modifier) 0)
 
 -- ---- The operands of an instruction
-
--- How many destinations and how many sources a form has.
-abbrev pub destinations : Form → ℕ
-destinations declaration = 0
-destinations immediate = 0
-destinations (instruction d s) = d
-destinations unknown = 0
-
-abbrev pub sources : Form → ℕ
-sources declaration = 0
-sources immediate = 0
-sources (instruction d s) = s
-sources unknown = 0
 
 -- Whether n sources, which stand from place p on, five bytes each, are all as asked.
 abbrev pub allSources : (Source → Bool) → List ℕ → ℕ → ℕ → Bool

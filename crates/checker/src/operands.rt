@@ -2,61 +2,15 @@
 use format::fields::Declaration;
 use format::fields::Destination;
 use format::fields::Source;
+use format::kinds::destinations_of;
+use format::kinds::sources_of;
 ghost use mathlib.Core.Path.{_≡_};
 ghost use Prim.Native.Nat.{_≤_};
-ghost use Rattle.format.specs.Kinds.{formOf};
-ghost use Rattle.checker.specs.Rules.{destinations, sources, mayNegate, memoryKind, destinationFile, maskRule, destinationRule, sourceRule, declarationRule, allSources, allOperands, operandRules};
+ghost use Rattle.checker.specs.Rules.{mayNegate, memoryKind, destinationFile, maskRule, destinationRule, sourceRule, declarationRule, allSources, allOperands, operandRules};
 ghost use Rattle.checker.specs.Sets.{isIn};
 ghost use Rattle.checker.specs.Findings.{destinationFound, sourceFound, operandsFound};
 use crate::sets;
 use crate::sets::Declared;
-
-// How many destinations and how many sources an instruction has.
-pub struct Operands {
-    pub destinations: u8,
-    pub sources: u8,
-}
-
-// The operands of instructions of a kind, by the rule of the lengths: 4 a destination and 5 a source.
-fn operands_of(kind: u8) -> Operands
-    ensures { λ r. ⌜ (r .destinations ≡ destinations (formOf kind)) × (r .sources ≡ sources (formOf kind)) ⌝ }
-{
-    let length = format::kinds::body_length(kind);
-    match length {
-        5 => {
-            if kind == 1 {
-                return Operands {
-                    destinations: 0,
-                    sources: 0,
-                };
-            }
-            Operands {
-                destinations: 0,
-                sources: 1,
-            }
-        }
-        9 => Operands {
-            destinations: 1,
-            sources: 1,
-        },
-        14 => Operands {
-            destinations: 1,
-            sources: 2,
-        },
-        19 => Operands {
-            destinations: 1,
-            sources: 3,
-        },
-        24 => Operands {
-            destinations: 1,
-            sources: 4,
-        },
-        _ => Operands {
-            destinations: 0,
-            sources: 0,
-        },
-    }
-}
 
 // Whether instructions of a kind may negate a source.
 fn may_negate(kind: u8) -> bool
@@ -148,11 +102,11 @@ pub fn rules_kept(kind: u8, file: &[u8], at: usize) -> bool
     requires { ⌜ at ≤ 65536 ⌝ }
     ensures { λ r. ⌜ r ≡ operandRules kind (now (file .entry)) at ⌝ }
 {
-    let operands = operands_of(kind);
+    let destinations = destinations_of(kind);
     let destination = format::fields::destination_at(file, at + 1);
-    let from = at + 1 + 4 * operands.destinations as usize;
-    ((operands.destinations == 0) | destination_allowed(kind, destination))
-        & sources_allowed(kind, file, from, operands.sources)
+    let from = at + 1 + 4 * destinations as usize;
+    ((destinations == 0) | destination_allowed(kind, destination))
+        & sources_allowed(kind, file, from, sources_of(kind))
 }
 
 // Whether what a source names is there: a declared register, one of so many immediates' words, or for an indirect source
@@ -199,11 +153,11 @@ fn registers_found(kind: u8, d: Declared, words: usize, file: &[u8], at: usize) 
     requires { ⌜ at ≤ 65536 ⌝ }
     ensures { λ r. ⌜ r ≡ allOperands kind (destinationFound (isIn d)) (sourceFound (isIn d) words) (now (file .entry)) at ⌝ }
 {
-    let operands = operands_of(kind);
+    let destinations = destinations_of(kind);
     let destination = format::fields::destination_at(file, at + 1);
-    let from = at + 1 + 4 * operands.destinations as usize;
-    ((operands.destinations == 0) | destination_found(d, destination))
-        & sources_found(d, words, file, from, operands.sources)
+    let from = at + 1 + 4 * destinations as usize;
+    ((destinations == 0) | destination_found(d, destination))
+        & sources_found(d, words, file, from, sources_of(kind))
 }
 
 // The same, and MEM for a memory kind.

@@ -21,14 +21,15 @@ pub past-end-after : (l : List ℕ) (i k : ℕ) → length l ≤ i → 0 ≡ get
 past-end-after l i k h = past-end l (i + k) (omega arith)
 
 module _ (file : List ℕ) (p : ℕ) where
-  pub word16-is : (k low high : ℕ)
+  pub word16-is : (k low high r : ℕ)
       → low ≡ getD file (p + k) 0
       → high ≡ getD file (p + (k + 1)) 0
-      → low + 256 * high ≡ word16 file (p + k)
+      → r ≡ low + 256 * high
+      → r ≡ word16 file (p + k)
   unfolding word16
-  word16-is k low high el eh =
+  word16-is k low high r el eh er =
       let e : p + k + 1 ≡ p + (k + 1) = omega arith in
-      rw (e, ← el, ← eh)
+      er ∙ rw (e, ← el, ← eh)
 
   pub word32-is : (a b c d : ℕ)
       → a ≡ getD file p 0
@@ -38,6 +39,13 @@ module _ (file : List ℕ) (p : ℕ) where
       → a + 256 * b + 65536 * c + 16777216 * d ≡ word32 file p
   unfolding word32
   word32-is a b c d ea eb ec ed = cc
+
+  pub source-whole : (i : ℕ) → i ≡ getD file (p + 1) 0 + 256 * getD file (p + 2) 0
+      → record { file = getD file p 0; index = i; swizzle = getD file (p + 3) 0; modifier = getD file (p + 4) 0 } ≡ sourceAt file p
+  unfolding sourceAt word16
+  source-whole i ei =
+      let e : p + 1 + 1 ≡ p + 2 = omega arith in
+      rw (e, ei)
 
   module _ (f i : ℕ) (ef : f ≡ getD file p 0) (ei : i ≡ word16 file (p + 1)) where
     pub destination-is : (m : ℕ) → m ≡ getD file (p + 3) 0 → record { file = f; index = i; mask = m } ≡ destinationAt file p

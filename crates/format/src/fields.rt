@@ -1,7 +1,7 @@
 // Numbers, operands and declarations at a place of the file.
 ghost use mathlib.Core.Path.{_≡_};
-ghost use Prim.Native.Nat.{_+_};
-ghost use lib.ListN.{getD};
+ghost use Prim.Native.Nat.{_+_, _*_, _≤_};
+ghost use lib.ListN.{getD, length};
 ghost use Rattle.format.specs.Fields.{word16, word32, destinationAt, sourceAt, declarationAt, caseWord};
 
 // Where an instruction writes: a register, and the components that its mask has.
@@ -45,13 +45,20 @@ fn byte_after(bytes: &[u8], at: usize, k: usize) -> u8
     0
 }
 
+// The 16-bit number of two bytes, the low one first.
+fn u16_of(low: u8, high: u8) -> u16
+    ensures { λ r. ⌜ r ≡ low + 256 * high ⌝ }
+{
+    low as u16 + 256 * high as u16
+}
+
 // The 16-bit number k places on.
 fn u16_after(bytes: &[u8], at: usize, k: u8) -> u16
     ensures { λ r. ⌜ r ≡ word16 (now (bytes .entry)) (at + k) ⌝ }
 {
     let low = byte_after(bytes, at, k as usize);
     let high = byte_after(bytes, at, k as usize + 1);
-    low as u16 + 256 * high as u16
+    u16_of(low, high)
 }
 
 // The 32-bit number at a place.
@@ -82,6 +89,19 @@ pub fn source_at(file: &[u8], at: usize) -> Source
         index: u16_after(file, at, 1),
         swizzle: byte_after(file, at, 3),
         modifier: byte_after(file, at, 4),
+    }
+}
+
+// The same where all five bytes are there, so that none is asked for by itself.
+pub fn source_in(bytes: &[u8], at: usize) -> Source
+    requires { ⌜ at + 5 ≤ length (now bytes) ⌝ }
+    ensures { λ r. ⌜ r ≡ sourceAt (now (bytes .entry)) at ⌝ }
+{
+    Source {
+        file: bytes[at],
+        index: u16_of(bytes[at + 1], bytes[at + 2]),
+        swizzle: bytes[at + 3],
+        modifier: bytes[at + 4],
     }
 }
 

@@ -1,6 +1,6 @@
-// Kinds of records, and how long the body of each is.
+// Kinds of records: how long the body of each is, and which operands it has.
 ghost use mathlib.Core.Path.{_≡_};
-ghost use Rattle.format.specs.Kinds.{lengthOf};
+ghost use Rattle.format.specs.Kinds.{lengthOf, formOf, destinations, sources};
 
 // What the table holds for an unknown kind.
 pub const UNKNOWN: u8 = 255;
@@ -270,4 +270,27 @@ pub fn body_length(kind: u8) -> u8
     ensures { λ r. ⌜ r ≡ lengthOf kind ⌝ }
 {
     LENGTHS[kind as usize]
+}
+
+// How many destinations instructions of a kind have.
+pub fn destinations_of(kind: u8) -> u8
+    ensures { λ r. ⌜ r ≡ destinations (formOf kind) ⌝ }
+{
+    match kind {
+        0x10..=0x1e | 0x20..=0x37 | 0x40..=0x52 | 0x56..=0x5f | 0x60..=0x64 | 0x70 => 1,
+        _ => 0,
+    }
+}
+
+// How many sources.
+pub fn sources_of(kind: u8) -> u8
+    ensures { λ r. ⌜ r ≡ sources (formOf kind) ⌝ }
+{
+    match kind {
+        0x10..=0x1e | 0x90..=0x92 => 1,
+        0x20..=0x37 | 0x40..=0x52 | 0x56..=0x5f => 2,
+        0x60..=0x64 => 3,
+        0x70 => 4,
+        _ => 0,
+    }
 }

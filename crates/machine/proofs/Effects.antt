@@ -1,18 +1,16 @@
 -- Effects: what is written is the result of the kind's family.
 -- Assumes nothing.
-use mathlib.Core.Path.{_≡_, _∙_, refl, sym, ap}
-use mathlib.Core.Bool.{Bool, true, false, _||_}
-use mathlib.Core.List.{List, [], _∷_}
-use Prim.Native.Nat.{ℕ, _-_, _<_, _≤_}
-use borrow.Author.Tests.{ne-eqb}
-use lib.Dec.{T, eqb, eqb→eq}
-use lib.ListN.{getD}
-use Rattle.format.specs.declared.fields.Destination.{Destination}
-use Rattle.machine.specs.declared.operands.Operands.{Operands}
+use Rattle.machine.specs.Effect.{Family, WORDS, WIDE-UNARY, LOAD, WIDE, STORE, ATOMIC, ATOMCAS, NONE, effectOf, exchange, familyOf, result, state}
 use Rattle.machine.specs.Operands.{State, components, written}
 use Rattle.machine.specs.Memory.{loaded, stored}
-use Rattle.machine.specs.Effect.{Family, UNARY, WIDE-UNARY, LOAD, BINARY, WIDE, STORE, ATOMIC, TERNARY, ATOMCAS, BFI, NONE, effectOf, exchange, familyOf, result, state}
-use Rattle.machine.proofs.Families.{every, in-range}
+use Rattle.format.proofs.Ranges.{every, in-range}
+use Prim.Native.Nat.{_-_, _<_, _≤_, ℕ}
+use mathlib.Core.Path.{_∙_, _≡_, ap, refl, sym}
+use mathlib.Core.Bool.{Bool, _||_}
+use mathlib.Core.List.{List, [], _∷_}
+use borrow.Author.Tests.{ne-eqb}
+use lib.Dec.{T, eqb, eqb→eq}
+use Rattle.format.specs.declared.fields.Destination.{Destination}
 
 pub result-is : (d : Destination) (r m l v u : List ℕ) → v ≡ u → l ≡ written r d v → state l m ≡ result d (state r m) u
 result-is d r m l v u e h = cc
@@ -30,30 +28,24 @@ exchange-is d r m a f old new l q eo en eq el = cc
 
 -- a kind of each family, by which two families are told apart
 abbrev pub kindIn : Family → ℕ
-kindIn UNARY = 0x10
+kindIn WORDS = 0x10
 kindIn WIDE-UNARY = 0x1B
 kindIn LOAD = 0x1E
-kindIn BINARY = 0x20
 kindIn WIDE = 0x40
 kindIn STORE = 0x58
 kindIn ATOMIC = 0x56
-kindIn TERNARY = 0x60
 kindIn ATOMCAS = 0x64
-kindIn BFI = 0x70
 kindIn NONE = 0
 
 kind-in : (f : Family) → familyOf (kindIn f) ≡ f
 unfolding familyOf
-kind-in UNARY = refl
+kind-in WORDS = refl
 kind-in WIDE-UNARY = refl
 kind-in LOAD = refl
-kind-in BINARY = refl
 kind-in WIDE = refl
 kind-in STORE = refl
 kind-in ATOMIC = refl
-kind-in TERNARY = refl
 kind-in ATOMCAS = refl
-kind-in BFI = refl
 kind-in NONE = refl
 
 pub same-family : (f g : Family) → T (eqb (kindIn f) (kindIn g)) → f ≡ g
@@ -63,11 +55,11 @@ same-family f g h = sym (kind-in f) ∙ (ap familyOf (eqb→eq (kindIn f) (kindI
 abbrev pub fits : Family → ℕ → Bool
 fits f k = eqb k 0x1E || (eqb k 0x58 || (eqb k 0x64 || (eqb k 0x70 || eqb (kindIn (familyOf k)) (kindIn f))))
 
-pub effect-at : (f : Family) (n : ℕ) → familyOf n ≡ f → (k : ℕ) (d : Destination) (o : Operands) (s t : State)
+pub effect-at : (f : Family) (n : ℕ) → familyOf n ≡ f → (k : ℕ) (d : Destination) (o : List (List ℕ)) (s t : State)
     → k ≡ n → t ≡ effectOf f k d o s → t ≡ effectOf (familyOf k) k d o s
 effect-at f n e k d o s t h r = rw (h, e) (rw h at r)
 
-pub effect-in : (f : Family) (lo hi : ℕ) → T (every (fits f) lo (hi - lo)) → (k : ℕ) (d : Destination) (o : Operands) (s t : State)
+pub effect-in : (f : Family) (lo hi : ℕ) → T (every (fits f) lo (hi - lo)) → (k : ℕ) (d : Destination) (o : List (List ℕ)) (s t : State)
     → (k ≡ 0x1E → ⊥) → (k ≡ 0x58 → ⊥) → (k ≡ 0x64 → ⊥) → (k ≡ 0x70 → ⊥)
     → lo ≤ k → k < hi → t ≡ effectOf f k d o s → t ≡ effectOf (familyOf k) k d o s
 effect-in f lo hi e k d o s t w x y z a b r = rw same r

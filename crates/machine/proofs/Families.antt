@@ -1,18 +1,18 @@
 -- Families of instructions: an arm of a match on the kind is the family's table at that kind, and the kinds from one number
 -- to another are all of one family, which a computed test says.
 -- Assumes nothing.
-use mathlib.Core.Path.{_≡_, _∙_, refl, sym, ap}
-use mathlib.Core.Bool.{Bool, true, false, cond, not, _&&_, _||_}
-use mathlib.Core.List.{List, [], _∷_}
-use mathlib.Core.Logic.{⊎-elim}
-use Prim.Native.Nat.{ℕ, zero, suc, _+_, _-_, _<_, _≤_}
+use Rattle.machine.specs.Arithmetic.{countOr, halves, pair, wide, wideOf, wideUnary, wideUnaryOf, wordOf}
+use Rattle.format.specs.Kinds.{within}
+use Prim.Native.Nat.{_+_, _<_, _≤_, suc, zero, ℕ}
+use mathlib.Core.Path.{_≡_, refl}
+use mathlib.Core.Bool.{Bool, cond, false, not, true}
+use mathlib.Core.List.{List}
 use native.Mathlib.Omega.{arith}
-use native.Mathlib.Nat.{add-suc, add-zero, eq-or-lt-of-le, le-of-suc-le-suc}
-use borrow.Author.Tests.{le-leb, lt-leb, ne-eqb}
+use native.Mathlib.Nat.{add-suc, add-zero, le-of-suc-le-suc}
+use borrow.Author.Tests.{le-leb, leb-true, lt-leb, ne-eqb}
+use lib.Dec.{leb}
 use lib.Arith.{lt-of-le-ne}
-use lib.Dec.{T, eqb, eqb→eq, leb}
 use lib.ListN.{getD}
-use Rattle.machine.specs.Arithmetic.{countOr, halves, pair, wide, wideOf, wideUnary, wideUnaryOf}
 
 -- ---- arms
 
@@ -22,8 +22,8 @@ arm₁ f n k a r h e = rw h e
 pub arm₂ : (f : ℕ → ℕ → ℕ → ℕ) (n k a b r : ℕ) → k ≡ n → r ≡ f n a b → r ≡ f k a b
 arm₂ f n k a b r h e = rw h e
 
-pub arm₃ : (f : ℕ → ℕ → ℕ → ℕ → ℕ) (n k a b c r : ℕ) → k ≡ n → r ≡ f n a b c → r ≡ f k a b c
-arm₃ f n k a b c r h e = rw h e
+pub arm-word : (n k a b c d r : ℕ) → k ≡ n → r ≡ wordOf n a b c d → r ≡ wordOf k a b c d
+arm-word n k a b c d r h e = rw h e
 
 -- a comparison's flag
 module _ (t u : Bool) (r : ℕ) (e : t ≡ u) where
@@ -33,14 +33,41 @@ module _ (t u : Bool) (r : ℕ) (e : t ≡ u) where
   pub flagged-not : r ≡ cond (not t) 4294967295 0 → r ≡ cond (not u) 4294967295 0
   flagged-not h = rw (← e) h
 
--- what the default arm knows, where the arms before it are the n numbers from lo on
+-- what the default arm knows beside P, where the arms before it are the n numbers from lo on
+abbrev pub AvoidsAlso : Type 0 → ℕ → ℕ → ℕ → Type 0
+AvoidsAlso P lo zero k = P
+AvoidsAlso P lo (suc n) k = AvoidsAlso P lo n k × (k ≡ lo + n → ⊥)
+
 abbrev pub Avoids : ℕ → ℕ → ℕ → Type 0
-Avoids lo zero k = Unit {0}
-Avoids lo (suc n) k = Avoids lo n k × (k ≡ lo + n → ⊥)
+Avoids = AvoidsAlso (Unit {0})
+
+module _ (P : Type 0) (lo : ℕ) where
+  also : (n k : ℕ) → AvoidsAlso P lo n k → P
+  also zero k a = a
+  also (suc n) k a = also n k (a .0)
+
+  avoids : (n k : ℕ) → AvoidsAlso P lo n k → lo ≤ k → k < lo + n → ⊥
+  avoids zero k a l h = omega (arith, add-zero lo)
+  avoids (suc n) k a l h = avoids n k (a .0) l (lt-of-le-ne (le-of-suc-le-suc (rw add-suc at h)) (a .1))
+
+  outside : (n k : ℕ) → AvoidsAlso P lo (suc n) k → within lo (lo + n) k ≡ false
+  outside n k a = on (leb lo k) refl (leb k (lo + n)) refl
+    where
+      on : (t : Bool) → leb lo k ≡ t → (u : Bool) → leb k (lo + n) ≡ u → within lo (lo + n) k ≡ false
+      on true e true e′ =
+          let below : k < lo + suc n = omega (arith, leb-true k (lo + n) e′) in
+          absurd (avoids (suc n) k a (leb-true lo k e) below)
+      on true e false e′ = rw (e, e′)
+      on false e u e′ = rw e
 
 pub avoids-all : (lo n k : ℕ) → Avoids lo n k → lo ≤ k → k < lo + n → ⊥
-avoids-all lo zero k a l h = omega (arith, add-zero lo)
-avoids-all lo (suc n) k a l h = avoids-all lo n k (a .0) l (lt-of-le-ne (le-of-suc-le-suc (rw add-suc at h)) (a .1))
+avoids-all lo n k = avoids (Unit {0}) lo n k
+
+-- a kind that none of the four groups of results on words has
+pub no-word : (k a b c d : ℕ) → AvoidsAlso (AvoidsAlso (AvoidsAlso (Avoids 0x10 11 k) 0x20 24 k) 0x60 4 k) 0x70 1 k → 0 ≡ wordOf k a b c d
+unfolding wordOf
+no-word k a b c d h =
+    simp (outside (Unit {0}) 0x10 10 k (also _ 0x20 24 k (also _ 0x60 4 k (h .0))), outside _ 0x20 23 k (also _ 0x60 4 k (h .0)), outside _ 0x60 3 k (h .0), ne-eqb k 0x70 (h .1))
 
 -- ---- 64-bit values
 
@@ -70,27 +97,3 @@ pub wide-is : (k : ℕ) (a b : List ℕ) (p q m n x y v w : ℕ) (l : List ℕ)
     → l ≡ halves v w → l ≡ wideOf k a b
 unfolding wideOf
 wide-is k a b p q m n x y v w l ep em ex ev eq en ey ew el = cc
-
--- ---- ranges of kinds
-
--- a test of each number from lo on, n of them
-abbrev pub every : (ℕ → Bool) → ℕ → ℕ → Bool
-every t lo zero = true
-every t lo (suc n) = t (lo + n) && every t lo n
-
-pub and-left : (a b : Bool) → T (a && b) → T a
-and-left true b h = tt
-and-left false b h = h
-
-pub and-right : (a b : Bool) → T (a && b) → T b
-and-right true b h = h
-and-right false b h = absurd h
-
-every-at : (t : ℕ → Bool) (lo n k : ℕ) → T (every t lo n) → lo ≤ k → k < lo + n → T (t k)
-every-at t lo zero k h a b = absurd (omega (arith, add-zero lo))
-every-at t lo (suc n) k h a b =
-    ⊎-elim (λ e. rw e (and-left (t (lo + n)) (every t lo n) h)) (λ l. every-at t lo n k (and-right (t (lo + n)) (every t lo n) h) a l)
-    (eq-or-lt-of-le (le-of-suc-le-suc (rw add-suc at b)))
-
-pub in-range : (t : ℕ → Bool) (lo hi k : ℕ) → T (every t lo (hi - lo)) → lo ≤ k → k < hi → T (t k)
-in-range t lo hi k h a b = every-at t lo (hi - lo) k h a (omega arith)

@@ -1,24 +1,33 @@
 -- Sources: a register number with its address, the words of each file, and the four components.
 -- Assumes nothing.
-use mathlib.Core.Path.{_≡_, _∙_, refl, sym, ap}
-use mathlib.Core.Bool.{Bool, true, false, cond}
-use mathlib.Core.List.{List, [], _∷_}
-use Prim.Native.Nat.{ℕ, suc, _+_, _-_, _*_, _/_, _%_, _^_, _<_, _≤_}
-use native.Mathlib.Omega.{arith}
-use native.Mathlib.Nat.{add-assoc}
-use borrow.Author.Tests.{eq-eqb, le-leb, le-ltb, lt-leb, lt-ltb, ne-eqb}
-use lib.Dec.{eqb}
-use lib.ListN.{getD, drop}
-use lib.Seq.{getD-drop}
-use lib.IntN.{ℤ, pos, negsuc, subℕ, _+ℤ_}
+use Rattle.machine.specs.Effect.{nthSource, readAt, sourcePlace, sourcesOf}
+use Rattle.machine.specs.Operands.{Env, bitIn, components, declaredIn, fourAt, ifDeclared, negated, registerOf, registerWords, selected, sourceOf, taken, zeros}
 use Rattle.words.specs.Word.{neg, signed}
+use Rattle.format.specs.Kinds.{destinations, formOf, sources}
+use Rattle.format.proofs.Ranges.{every, in-range}
 use Rattle.format.specs.Fields.{sourceAt}
+use Prim.Native.Nat.{_%_, _*_, _+_, _-_, _/_, _<_, _^_, _≤_, suc, zero, ℕ}
+use mathlib.Core.Path.{_∙_, _≡_, ap, refl, sym}
+use mathlib.Core.Bool.{Bool, cond, false, true}
+use mathlib.Core.List.{List, [], _∷_}
+use native.Mathlib.Omega.{arith}
+use native.Mathlib.Nat.{add-zero, mod-lt}
+use borrow.Author.Tests.{le-leb, le-ltb, lt-leb, lt-ltb, ne-eqb}
+use lib.Dec.{T, eqb, leb, leb→le, ltb}
+use lib.ListN.{drop, drop-of-length-le, getD, length, length-drop, set, take}
+use lib.Seq.{take-all}
+use lib.IntN.{_+ℤ_, pos, subℕ}
 use Rattle.format.specs.declared.fields.Source.{Source}
 use Rattle.machine.specs.declared.operands.Place.{Place}
 use Rattle.machine.specs.declared.operands.Place.the-variants.{Register, Nowhere}
-use Rattle.machine.specs.declared.operands.Operands.{Operands}
-use Rattle.machine.specs.Effect.{operandsOf}
-use Rattle.machine.specs.Operands.{Env, bitIn, components, declaredIn, fileWords, ifDeclared, negated, registerOf, selected, sourceOf, taken}
+
+-- ---- parts of lent words
+
+pub rest-of : (l : List ℕ) (n : ℕ) → take (length l - n) (drop n l) ≡ drop n l
+rest-of l n = take-all (length l - n) (drop n l) (omega (arith, length-drop n l))
+
+pub past-rest : (l : List ℕ) (n : ℕ) → length l ≤ n → [] ≡ drop n l
+past-rest l n h = sym (drop-of-length-le l h)
 
 pub bit-is : (l : List ℕ) (i w : ℕ) → w ≡ getD l (i / 32) 0 → eqb (w / 2 ^ (i % 32) % 2) 1 ≡ bitIn l i
 bit-is l i w e = rw e
@@ -85,77 +94,108 @@ module _ (d : ℕ → ℕ → Bool) (r : List ℕ) (s : Source) where
 
 -- ---- components
 
-module _ (l : List ℕ) (s : Source) (first i k w : ℕ) (ek : k ≡ selected (s .swizzle) i) (ew : w ≡ getD l (first + k) 0) where
-  pub component-negated : (x : ℕ) → s .modifier % 2 ≡ 1 → x ≡ neg 32 w → x ≡ negated (s .modifier) (getD l (first + selected (s .swizzle) i) 0)
-  component-negated x h e = rw (h, ← ek, ← ew) e
-
-  pub component-plain : (s .modifier % 2 ≡ 1 → ⊥) → w ≡ negated (s .modifier) (getD l (first + selected (s .swizzle) i) 0)
-  component-plain h = rw (ne-eqb (s .modifier % 2) 1 h, ← ek, ← ew)
-
-negated-zero : (t : Bool) → cond t (neg 32 0) 0 ≡ 0
-negated-zero true = refl
-negated-zero false = refl
-
 pub components-are : (f : ℕ → ℕ) (x y z w : ℕ) → x ≡ f 0 → y ≡ f 1 → z ≡ f 2 → w ≡ f 3 → x ∷ y ∷ z ∷ w ∷ [] ≡ components f
 unfolding components
 components-are f x y z w ex ey ez ew = cc
 
+pub four-past : (l : List ℕ) (first : ℕ) → length l < first + 4 → zeros ≡ fourAt l first
+unfolding fourAt
+four-past l first h = rw (lt-leb (first + 4) (length l) h)
+
+pub four-there : (l : List ℕ) (first : ℕ) → first + 4 ≤ length l
+    → getD l first 0 ∷ getD l (first + 1) 0 ∷ getD l (first + 2) 0 ∷ getD l (first + 3) 0 ∷ [] ≡ fourAt l first
+unfolding fourAt components
+four-there l first h = rw (le-leb (first + 4) (length l) h) (rw (add-zero first))
+
+pub selected-below : (swizzle i k : ℕ) → k ≡ selected swizzle i → k < 4
+selected-below swizzle i k e = rw e (mod-lt (swizzle / 2 ^ (2 * i)) (omega arith))
+
+module _ (l : List ℕ) (s : Source) (i k : ℕ) (ek : k ≡ selected (s .swizzle) i) where
+  pub component-negated : (x : ℕ) → s .modifier % 2 ≡ 1 → x ≡ neg 32 (getD l k 0) → x ≡ negated (s .modifier) (getD l (selected (s .swizzle) i) 0)
+  component-negated x h e = rw (h, ← ek) e
+
+  pub component-plain : (s .modifier % 2 ≡ 1 → ⊥) → getD l k 0 ≡ negated (s .modifier) (getD l (selected (s .swizzle) i) 0)
+  component-plain h = rw (ne-eqb (s .modifier % 2) 1 h, ← ek)
+
 -- ---- the register of each file
 
+module _ (inputs constants immediates r : List ℕ) (f n : ℕ) where
+  abbrev words : List ℕ
+  words = registerWords inputs constants immediates r f n
+
+  pub register-const : (v : List ℕ) → f ≡ 1 → v ≡ fourAt constants (4 * n) → v ≡ words
+  unfolding registerWords
+  register-const v h e = rw h e
+
+  pub register-in : (v : List ℕ) → f ≡ 2 → v ≡ fourAt inputs (4 * n) → v ≡ words
+  unfolding registerWords
+  register-in v h e = rw h e
+
+  pub register-temp : (v : List ℕ) → f ≡ 4 → v ≡ fourAt r (128 + 4 * n) → v ≡ words
+  unfolding registerWords
+  register-temp v h e = rw h e
+
+  pub register-imm : (v : List ℕ) → f ≡ 6 → v ≡ fourAt immediates (4 * n) → v ≡ words
+  unfolding registerWords
+  register-imm v h e = rw h e
+
+  pub register-none : (f ≡ 1 → ⊥) → (f ≡ 2 → ⊥) → (f ≡ 4 → ⊥) → (f ≡ 6 → ⊥) → zeros ≡ words
+  unfolding registerWords
+  register-none a b c d = simp (ne-eqb f 1 a, ne-eqb f 2 b, ne-eqb f 4 c, ne-eqb f 6 d)
+
 module _ (e : Env) (r : List ℕ) (s : Source) (p : Place) (ep : p ≡ registerOf (e .declared) r s) where
-  pub source-nowhere : p ≡ Nowhere → 0 ∷ 0 ∷ 0 ∷ 0 ∷ [] ≡ sourceOf e r s
-  unfolding sourceOf components
+  pub source-nowhere : p ≡ Nowhere → zeros ≡ sourceOf e r s
+  unfolding sourceOf
   source-nowhere h = rw (← ep, h)
 
-  module _ (n : ℕ) (h : p ≡ Register n) (v : List ℕ) where
-    by-words : (l : List ℕ) → fileWords e r (s .file) ≡ l → v ≡ taken l s (4 * n) → v ≡ sourceOf e r s
-    unfolding sourceOf
-    by-words l k ev = rw (← ep, h, k) ev
+  pub source-register : (n : ℕ) (l v : List ℕ) → p ≡ Register n → l ≡ registerWords (e .inputs) (e .constants) (e .immediates) r (s .file) n → v ≡ taken l s → v ≡ sourceOf e r s
+  unfolding sourceOf
+  source-register n l v h el ev = rw (← ep, h, ← el) ev
 
-    pub source-const : s .file ≡ 1 → v ≡ taken (e .constants) s (4 * n) → v ≡ sourceOf e r s
-    unfolding fileWords
-    source-const k ev = by-words (e .constants) (rw k) ev
+-- ---- all sources of a record: no kind has more than four; after k of them have been read, those from k on are still 0
 
-    pub source-in : s .file ≡ 2 → v ≡ taken (e .inputs) s (4 * n) → v ≡ sourceOf e r s
-    unfolding fileWords
-    source-in k ev = by-words (e .inputs) (rw k) ev
+pub four-at-most : (k n : ℕ) → k < 256 → n ≡ sources (formOf k) → n ≤ 4
+four-at-most k n h e = rw e (leb→le (sources (formOf k)) 4 (in-range (λ k. leb (sources (formOf k)) 4) 0 256 k tt (omega arith) h))
 
-    pub source-temp : s .file ≡ 4 → v ≡ taken r s (128 + 4 * n) → v ≡ sourceOf e r s
-    unfolding fileWords taken
-    source-temp k ev = by-words (drop 128 r) (rw k) (simp (getD-drop, ← add-assoc) ev)
+module _ (e : Env) (r bytes : List ℕ) where
+  pub source-there : (p : ℕ) (s : Source) (v : List ℕ) → p + 5 ≤ length bytes → s ≡ sourceAt bytes p → v ≡ sourceOf e r s → v ≡ readAt e r bytes p
+  unfolding readAt
+  source-there p s v h es ev = rw (le-leb (p + 5) (length bytes) h) (ev ∙ ap (sourceOf e r) es)
 
-    pub source-imm : s .file ≡ 6 → v ≡ taken (e .immediates) s (4 * n) → v ≡ sourceOf e r s
-    unfolding fileWords
-    source-imm k ev = by-words (e .immediates) (rw k) ev
+  pub source-cut : (p : ℕ) → length bytes < p + 5 → zeros ≡ readAt e r bytes p
+  unfolding readAt
+  source-cut p h = rw (lt-leb (p + 5) (length bytes) h)
 
-    pub source-other : (s .file ≡ 1 → ⊥) → (s .file ≡ 2 → ⊥) → (s .file ≡ 4 → ⊥) → (s .file ≡ 6 → ⊥) → 0 ∷ 0 ∷ 0 ∷ 0 ∷ [] ≡ sourceOf e r s
-    unfolding sourceOf fileWords taken components
-    source-other a b c d =
-        simp (← ep, h, ne-eqb (s .file) 1 a, ne-eqb (s .file) 2 b, ne-eqb (s .file) 4 c, ne-eqb (s .file) 6 d, negated-zero)
+  abbrev kept : ℕ → ℕ → List ℕ
+  kept k i = cond (ltb i k) (nthSource e r bytes i) zeros
 
--- ---- all sources of a record
+  abbrev pub soFar : ℕ → List (List ℕ)
+  soFar k = kept k 0 ∷ kept k 1 ∷ kept k 2 ∷ kept k 3 ∷ []
 
-pub read-is : (e : Env) (r bytes v : List ℕ) (at : ℕ) (s : Source) → s ≡ sourceAt bytes at → v ≡ sourceOf e r s → v ≡ sourceOf e r (sourceAt bytes at)
-read-is e r bytes v at s es ev = cc
+  one-more : (k : ℕ) (v : List ℕ) → k < 4 → v ≡ nthSource e r bytes k → set (soFar k) k v ≡ soFar (k + 1)
+  one-more zero v h ev = rw ev
+  one-more (suc zero) v h ev = rw ev
+  one-more (suc (suc zero)) v h ev = rw ev
+  one-more (suc (suc (suc zero))) v h ev = rw ev
+  one-more (suc (suc (suc (suc k)))) v h ev = absurd (omega arith)
 
-abbrev pub zeros : List ℕ
-zeros = 0 ∷ 0 ∷ 0 ∷ 0 ∷ []
+  module _ (kind count d : ℕ) (ek : kind ≡ getD bytes 0 0) (ec : count ≡ sources (formOf kind)) (ed : d ≡ destinations (formOf kind)) where
+    pub source-read : (k : ℕ) (l : List (List ℕ)) (v : List ℕ) → count ≤ 4 → k < count → l ≡ soFar k → v ≡ readAt e r bytes (1 + 4 * d + 5 * k) → set l k v ≡ soFar (k + 1)
+    unfolding nthSource sourcePlace
+    source-read k l v four h el ev =
+        let there : v ≡ nthSource e r bytes k = rw (← ek, ← ec, ← ed, lt-ltb k count h) ev in
+        ap (λ (q : List (List ℕ)). set q k v) el ∙ one-more k v (omega arith) there
 
-module _ (env : Env) (r bytes : List ℕ) (k : ℕ) (ek : k ≡ getD bytes 0 0) (a : List ℕ) (ea : a ≡ sourceOf env r (sourceAt bytes 5)) where
-  pub one-source : k < 0x20 → record { a = a; b = zeros; c = zeros; d = zeros } ≡ operandsOf env r bytes
-  unfolding operandsOf components
-  one-source h = cc (lt-leb 0x20 k h, lt-leb 0x60 k (omega arith), lt-leb 0x70 k (omega arith))
+    all-kept : (i : ℕ) → kept count i ≡ nthSource e r bytes i
+    unfolding nthSource
+    all-kept i = on (ltb i count) refl
+      where
+        on : (t : Bool) → ltb i count ≡ t → kept count i ≡ nthSource e r bytes i
+        on true h = rw h
+        on false h = rw (h, ← ek, ← ec, h)
 
-  module _ (h : 0x20 ≤ k) (b : List ℕ) (eb : b ≡ sourceOf env r (sourceAt bytes 10)) where
-    pub two-sources : k < 0x60 → record { a = a; b = b; c = zeros; d = zeros } ≡ operandsOf env r bytes
-    unfolding operandsOf components
-    two-sources i = cc (le-leb 0x20 k h, lt-leb 0x60 k i, lt-leb 0x70 k (omega arith))
-
-    module _ (i : 0x60 ≤ k) (c : List ℕ) (ec : c ≡ sourceOf env r (sourceAt bytes 15)) where
-      pub three-sources : k < 0x70 → record { a = a; b = b; c = c; d = zeros } ≡ operandsOf env r bytes
-      unfolding operandsOf components
-      three-sources j = cc (le-leb 0x20 k h, le-leb 0x60 k i, lt-leb 0x70 k j)
-
-      pub four-sources : (d : List ℕ) → 0x70 ≤ k → d ≡ sourceOf env r (sourceAt bytes 20) → record { a = a; b = b; c = c; d = d } ≡ operandsOf env r bytes
-      unfolding operandsOf
-      four-sources d j ed = cc (le-leb 0x20 k h, le-leb 0x60 k i, le-leb 0x70 k j)
+    pub sources-read : (k : ℕ) (l : List (List ℕ)) → l ≡ soFar k → k ≤ count → count ≤ k → l ≡ sourcesOf e r bytes
+    unfolding sourcesOf
+    sources-read k l el a b =
+        let same : k ≡ count = omega arith in
+        el ∙ ap soFar same ∙ cc (all-kept 0, all-kept 1, all-kept 2, all-kept 3)

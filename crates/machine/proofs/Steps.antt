@@ -1,45 +1,33 @@
 -- A step: each arm of the match is the step of the table's row, by the control instruction that the kind is.
 -- Assumes nothing.
-use mathlib.Core.Path.{_≡_, _∙_, refl, sym, ap}
-use mathlib.Core.Bool.{Bool, true, false, cond, not, _&&_}
-use mathlib.Core.List.{List, []}
-use mathlib.Core.Logic.{⊎-elim}
-use Prim.Native.Nat.{ℕ, suc, _+_, _*_, _-_, _<_, _≤_}
-use native.Mathlib.Omega.{arith}
-use native.Mathlib.Nat.{add-zero, eq-or-lt-of-le}
-use native.Mathlib.Numerals.{add-one}
-use borrow.Author.Tests.{ne-eqb}
-use lib.Dec.{T, eqb, eqb→eq}
-use lib.ListN.{drop, drop-of-length-le, getD, length, length-drop, take}
-use lib.Seq.{getD-drop, take-all}
+use Rattle.machine.specs.Effect.{NONE, effectOf, familyOf, recordEffect, sourcesOf, state}
+use Rattle.machine.specs.Step.{labelsOf, machineOf, stepped, testOf}
+use Rattle.machine.specs.Operands.{Env, State}
+use Rattle.machine.specs.Arithmetic.{of}
+use Rattle.machine.proofs.Effects.{kindIn, same-family}
+use Rattle.machine.proofs.Walks.{walk-labels}
 use Rattle.format.specs.Kinds.{within}
-use Rattle.format.specs.Fields.{destinationAt, sourceAt}
+use Rattle.format.specs.Fields.{destinationAt}
+use Rattle.format.proofs.Ranges.{and-left, and-right, every, in-range}
+use Rattle.blocks.specs.Table.{placeIn, rowIn}
+use Rattle.blocks.specs.Run.{Step, comesNext, mostInstructions, step, walk}
+use Rattle.blocks.specs.Control.{Machine, Op, PLAIN, ELSE, ENDIF, BGNLOOP, ENDLOOP, BRK, CONT, DEFAULT, ENDSWITCH, END, UIF, SWITCH, CASE, is, opOf}
+use Rattle.blocks.proofs.Ops.{op-cases}
+use Prim.Native.Nat.{_+_, _-_, _<_, _≤_, suc, ℕ}
+use mathlib.Core.Path.{_∙_, _≡_, ap, refl, sym}
+use mathlib.Core.Logic.{⊎-elim}
+use mathlib.Core.Bool.{Bool, _&&_, cond, false, not}
+use mathlib.Core.List.{List}
+use native.Mathlib.Omega.{arith}
+use native.Mathlib.Numerals.{add-one}
+use native.Mathlib.Nat.{add-zero, eq-or-lt-of-le}
+use borrow.Author.Tests.{ne-eqb}
+use lib.Dec.{T, eqb}
+use lib.ListN.{drop, getD}
+use lib.Seq.{getD-drop}
 use Rattle.format.specs.declared.fields.Destination.{Destination}
 use Rattle.blocks.specs.declared.Next.{Next}
 use Rattle.blocks.specs.declared.Next.the-variants.{At, Ended}
-use Rattle.blocks.specs.Control.{Machine, Op, PLAIN, ELSE, ENDIF, BGNLOOP, ENDLOOP, BRK, CONT, DEFAULT, ENDSWITCH, END, UIF, SWITCH, CASE, is, opOf}
-use Rattle.blocks.specs.Table.{Row, placeIn, rowIn}
-use Rattle.blocks.specs.Run.{Step, comesNext, mostInstructions, step, walk}
-use Rattle.blocks.proofs.Ops.{op-cases}
-use Rattle.machine.specs.declared.operands.Operands.{Operands}
-use Rattle.machine.specs.Operands.{Env, State, sourceOf}
-use Rattle.machine.specs.Effect.{NONE, effect, effectOf, familyOf, operandsOf, recordEffect, state}
-use Rattle.machine.specs.Step.{labelsOf, machineOf, stepped, testOf}
-use Rattle.machine.proofs.Effects.{kindIn, same-family}
-use Rattle.machine.proofs.Families.{and-left, and-right, every, in-range}
-use Rattle.machine.proofs.Walks.{walk-labels}
-
--- ---- bytes and the test
-
-pub rest-of : (l : List ℕ) (n : ℕ) → take (length l - n) (drop n l) ≡ drop n l
-rest-of l n = take-all (length l - n) (drop n l) (omega (arith, length-drop n l))
-
-pub past-rest : (l : List ℕ) (n : ℕ) → length l ≤ n → [] ≡ drop n l
-past-rest l n h = sym (drop-of-length-le l h)
-
-pub test-is : (e : Env) (r bytes v : List ℕ) → v ≡ sourceOf e r (sourceAt bytes 1) → getD v 0 0 ≡ testOf e r bytes
-unfolding testOf
-test-is e r bytes v h = rw h
 
 -- ---- the step
 
@@ -97,21 +85,24 @@ module _ (e : Env) (file rows : List ℕ) (n : ℕ) (r m : List ℕ) where
           (eq-or-lt-of-le a))
           (eq-or-lt-of-le a)
 
-    module _ (x : ℕ) (ex : x ≡ testOf e r bytes) where
-      pub uif-false : (j : ℕ) → k ≡ 0x90 → x ≡ 0 → j ≡ rowIn rows n .jump → stepped (At j) r m ≡ here
+    module _ (o : List (List ℕ)) (eo : o ≡ sourcesOf e r bytes) where
+      ex : of o 0 0 ≡ testOf e r bytes
+      ex = rw eo
+
+      pub uif-false : (j : ℕ) → k ≡ 0x90 → of o 0 0 ≡ 0 → j ≡ rowIn rows n .jump → stepped (At j) r m ≡ here
       unfolding opOf
       uif-false j h z ej = control UIF 0x90 refl refl (At j) h (rw (← ex, z, ej))
 
-      pub uif-true : k ≡ 0x90 → (x ≡ 0 → ⊥) → stepped (At (n + 1)) r m ≡ here
+      pub uif-true : k ≡ 0x90 → (of o 0 0 ≡ 0 → ⊥) → stepped (At (n + 1)) r m ≡ here
       unfolding opOf
-      uif-true h z = control UIF 0x90 refl refl (At (n + 1)) h (rw (← ex, ne-eqb x 0 z, add-one n))
+      uif-true h z = control UIF 0x90 refl refl (At (n + 1)) h (rw (← ex, ne-eqb (of o 0 0) 0 z, add-one n))
 
       pub switch-step : (l j w : ℕ) → k ≡ 0x91 → l ≡ rowIn rows n .label → j ≡ rowIn rows n .jump
-          → w ≡ walk (labelsOf (e .immediates) file (placeIn rows)) (rowIn rows) mostInstructions x l j → stepped (At w) r m ≡ here
+          → w ≡ walk (labelsOf (e .immediates) file (placeIn rows)) (rowIn rows) mostInstructions (of o 0 0) l j → stepped (At w) r m ≡ here
       unfolding opOf
       switch-step l j w h el ej ew =
           control SWITCH 0x91 refl refl (At w) h
-          (ap At (ew ∙ (walk-labels e file (placeIn rows) (rowIn rows) mostInstructions x l j ∙ rw (ex, el, ej))))
+          (ap At (ew ∙ (walk-labels e file (placeIn rows) (rowIn rows) mostInstructions (of o 0 0) l j ∙ rw (ex, el, ej))))
 
     -- ---- other kinds
 
@@ -126,7 +117,7 @@ module _ (e : Env) (file rows : List ℕ) (n : ℕ) (r m : List ℕ) where
         (λ h. absurd (omega arith)) (λ h. absurd (omega arith)) (λ h. absurd (omega arith)) (λ h. absurd (omega arith))
         refl
 
-    pub data-step : (d : Destination) (o : Operands) (q l : List ℕ) → k < 0x71 → d ≡ destinationAt bytes 1 → o ≡ operandsOf e r bytes
+    pub data-step : (d : Destination) (o : List (List ℕ)) (q l : List ℕ) → k < 0x71 → d ≡ destinationAt bytes 1 → o ≡ sourcesOf e r bytes
         → state q l ≡ effectOf (familyOf k) k d o (state r m) → stepped (At (n + 1)) q l ≡ here
     unfolding recordEffect
     data-step d o q l b ed eo et =

@@ -1,18 +1,21 @@
 -- Results written to the components of a mask, in registers and in memory.
 -- Assumes nothing.
-use mathlib.Core.Path.{_≡_, refl, sym}
-use mathlib.Core.Bool.{Bool, true, false}
-use mathlib.Core.List.{List, [], _∷_}
-use Prim.Native.Nat.{ℕ, _+_, _*_, _/_, _%_, _<_, _≤_}
-use native.Mathlib.Nat.{add-zero}
-use borrow.Author.Tests.{eq-eqb, ne-eqb}
-use lib.Dec.{eqb}
-use lib.ListN.{getD, length, set}
-use lib.Seq.{set-out}
-use Rattle.words.specs.Word.{bit}
-use Rattle.format.specs.declared.fields.Destination.{Destination}
-use Rattle.machine.specs.Operands.{components, firstWord, ifMasked, masked, written}
+use Rattle.machine.specs.Operands.{components, firstWord, ifMasked, masked, placed, written}
 use Rattle.machine.specs.Memory.{loaded, loadedFrom, stored, storedFrom}
+use Rattle.machine.specs.Arithmetic.{of, wordOf, wordsOf}
+use Rattle.words.specs.Word.{bit}
+use Prim.Native.Nat.{_%_, _*_, _+_, _/_, _<_, _≤_, suc, zero, ℕ}
+use mathlib.Core.Path.{_∙_, _≡_, ap, refl, sym}
+use mathlib.Core.Bool.{Bool, cond, false, true}
+use mathlib.Core.List.{List, [], _∷_}
+use native.Mathlib.Omega.{arith}
+use native.Mathlib.Numerals.{add-one}
+use native.Mathlib.Nat.{add-zero}
+use borrow.Author.Tests.{ne-eqb}
+use lib.Dec.{eqb}
+use lib.ListN.{getD, length, length-set, set}
+use lib.Seq.{set-out}
+use Rattle.format.specs.declared.fields.Destination.{Destination}
 
 pub set-past : (l : List ℕ) (i w : ℕ) → length l ≤ i → l ≡ set l i w
 set-past l i w h = sym (set-out l i w h)
@@ -47,6 +50,50 @@ pub written-is : (d : Destination) (first : ℕ) (v l x y z w : List ℕ) → fi
     → w ≡ written l d v
 unfolding written masked ifMasked
 written-is d first v l x y z w ef ex ey ez ew = cc
+
+-- ---- results on words: after the components below i, those from i on are as they were
+
+module _ (d : Destination) (v r : List ℕ) where
+  abbrev pub writtenTo : ℕ → List ℕ
+  writtenTo zero = r
+  writtenTo (suc i) = ifMasked (d .mask) i (placed d v) (writtenTo i)
+
+  pub word-more : (i : ℕ) (l q : List ℕ) → l ≡ writtenTo i → q ≡ ifMasked (d .mask) i (placed d v) l → q ≡ writtenTo (i + 1)
+  word-more i l q el eq = rw (add-one i) (eq ∙ ap (ifMasked (d .mask) i (placed d v)) el)
+
+  one-longer : (t : Bool) (i : ℕ) → length (writtenTo i) ≡ length r → length (cond t (placed d v i (writtenTo i)) (writtenTo i)) ≡ length r
+  one-longer true i e = length-set (writtenTo i) (firstWord d + i) (getD v i 0) ∙ e
+  one-longer false i e = e
+
+  as-long : (i : ℕ) → length (writtenTo i) ≡ length r
+  unfolding ifMasked
+  as-long zero = refl
+  as-long (suc i) = one-longer (eqb (bit (d .mask) i) 1) i (as-long i)
+
+  pub word-lengths : (i : ℕ) (l : List ℕ) → l ≡ writtenTo i → length l ≡ length r
+  word-lengths i l el = ap length el ∙ as-long i
+
+  pub words-written : (i : ℕ) (l : List ℕ) → l ≡ writtenTo i → i ≤ 4 → 4 ≤ i → l ≡ written r d v
+  unfolding written masked
+  words-written i l el a b =
+      let all : i ≡ 4 = omega arith in
+      el ∙ ap writtenTo all
+
+pub word-placed : (d : Destination) (v r q : List ℕ) (i first w : ℕ) (t : Bool) → t ≡ eqb (bit (d .mask) i) 1 → t ≡ true → first ≡ firstWord d → w ≡ getD v i 0
+    → q ≡ set r (first + i) w → q ≡ ifMasked (d .mask) i (placed d v) r
+unfolding ifMasked
+word-placed d v r q i first w t et h ef ew eq =
+    let here : q ≡ placed d v i r = cc in
+    rw (← et, h) here
+
+-- component i of a result on words
+pub word-is : (k : ℕ) (o : List (List ℕ)) (i w : ℕ) → i < 4 → w ≡ wordOf k (of o 0 i) (of o 1 i) (of o 2 i) (of o 3 i) → w ≡ getD (wordsOf k o) i 0
+unfolding wordsOf components
+word-is k o zero w h e = e
+word-is k o (suc zero) w h e = e
+word-is k o (suc (suc zero)) w h e = e
+word-is k o (suc (suc (suc zero))) w h e = e
+word-is k o (suc (suc (suc (suc i)))) w h e = absurd (omega arith)
 
 -- ---- memory
 

@@ -93,18 +93,20 @@ ternary k a b c = getD (ternaries a b c) (k - 0x60) 0
 unfoldable pub atomic : ℕ → ℕ → ℕ → ℕ
 atomic k old b = getD (atomics old b) (k - 0x56) 0
 
-unfoldable pub unaryOf : ℕ → List ℕ → List ℕ
-unaryOf k a = components (λ i. unary k (getD a i 0))
+-- All kinds whose result is made word by word, from one component of each source. BFI, kind 70: base, insert, offset, bits.
+unfoldable pub wordOf : ℕ → ℕ → ℕ → ℕ → ℕ → ℕ
+wordOf k a b c d =
+    cond (within 0x10 0x1A k) (unary k a)
+    (cond (within 0x20 0x37 k) (binary k a b)
+    (cond (within 0x60 0x63 k) (ternary k a b c)
+    (cond (eqb k 0x70) (bfi 32 a b c d) 0)))
 
-unfoldable pub binaryOf : ℕ → List ℕ → List ℕ → List ℕ
-binaryOf k a b = components (λ i. binary k (getD a i 0) (getD b i 0))
+-- Component i of source j.
+abbrev pub of : List (List ℕ) → ℕ → ℕ → ℕ
+of sources j i = getD (getD sources j []) i 0
 
-unfoldable pub ternaryOf : ℕ → List ℕ → List ℕ → List ℕ → List ℕ
-ternaryOf k a b c = components (λ i. ternary k (getD a i 0) (getD b i 0) (getD c i 0))
-
--- BFI, kind 70: base, insert, offset, bits.
-unfoldable pub bfiOf : List ℕ → List ℕ → List ℕ → List ℕ → List ℕ
-bfiOf a b c d = components (λ i. bfi 32 (getD a i 0) (getD b i 0) (getD c i 0) (getD d i 0))
+unfoldable pub wordsOf : ℕ → List (List ℕ) → List ℕ
+wordsOf k sources = components (λ i. wordOf k (of sources 0 i) (of sources 1 i) (of sources 2 i) (of sources 3 i))
 
 -- ---- on pairs of words
 

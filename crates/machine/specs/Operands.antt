@@ -3,8 +3,8 @@
 use Prim.Native.Nat.{ℕ, _+_, _*_, _/_, _%_, _^_}
 use mathlib.Core.Bool.{Bool, false, cond, _&&_}
 use mathlib.Core.List.{List, [], _∷_}
-use lib.Dec.{ltb, eqb}
-use lib.ListN.{getD, set, drop}
+use lib.Dec.{ltb, leb, eqb}
+use lib.ListN.{getD, set, length}
 use lib.IntN.{ℤ, pos, negsuc, _+ℤ_}
 use Rattle.words.specs.Word.{bit, neg, signed}
 use Rattle.format.specs.declared.fields.Source.{Source}
@@ -41,16 +41,24 @@ declaredIn words f i =
 unfoldable pub components : (ℕ → ℕ) → List ℕ
 components f = f 0 ∷ f 1 ∷ f 2 ∷ f 3 ∷ []
 
+-- Four components of 0.
+abbrev pub zeros : List ℕ
+zeros = 0 ∷ 0 ∷ 0 ∷ 0 ∷ []
+
 -- ---- sources
 
--- "Sources CONST, IN, TEMP, IMM": the words of file 1, 2, 4 or 6, four a register. "TEMP i from 128+4i" (01, Register files)
+-- The four words from `first` on; where they are not all lent, which no run asks for, 0.
+unfoldable pub fourAt : List ℕ → ℕ → List ℕ
+fourAt words first = cond (leb (first + 4) (length words)) (components (λ i. getD words (first + i) 0)) zeros
+
+-- "Sources CONST, IN, TEMP, IMM": the words of register n of file 1, 2, 4 or 6. "TEMP i from 128+4i" (01, Register files)
 -- Other files, which no accepted source names, have none.
-unfoldable pub fileWords : Env → List ℕ → ℕ → List ℕ
-fileWords e r f =
-    cond (eqb f 1) (e .constants)
-    (cond (eqb f 2) (e .inputs)
-    (cond (eqb f 4) (drop 128 r)
-    (cond (eqb f 6) (e .immediates) [])))
+unfoldable pub registerWords : List ℕ → List ℕ → List ℕ → List ℕ → ℕ → ℕ → List ℕ
+registerWords inputs constants immediates registers f n =
+    cond (eqb f 1) (fourAt constants (4 * n))
+    (cond (eqb f 2) (fourAt inputs (4 * n))
+    (cond (eqb f 4) (fourAt registers (128 + 4 * n))
+    (cond (eqb f 6) (fourAt immediates (4 * n)) zeros)))
 
 -- "An indirect index is index plus ADDR as a signed number; a negative or undeclared sum reads 0." (01, Instruction corners)
 -- "modifier 1: negate + 2·indirect, indirect 0 for none or 1 to 4 for ADDR[0].x to .w" (01, The program file); "ADDR from 1152"
@@ -71,17 +79,17 @@ selected swizzle i = swizzle / 2 ^ (2 * i) % 4
 abbrev pub negated : ℕ → ℕ → ℕ
 negated modifier w = cond (eqb (modifier % 2) 1) (neg 32 w) w
 
--- The components of the register whose words begin at `first`.
-unfoldable pub taken : List ℕ → Source → ℕ → List ℕ
-taken words s first = components (λ i. negated (s .modifier) (getD words (first + selected (s .swizzle) i) 0))
+-- What a source takes of a register's words.
+unfoldable pub taken : List ℕ → Source → List ℕ
+taken words s = components (λ i. negated (s .modifier) (getD words (selected (s .swizzle) i) 0))
 
-abbrev pub takenAt : List ℕ → Source → Place → List ℕ
-takenAt words s (Register n) = taken words s (4 * n)
-takenAt words s Nowhere = components (λ i. 0)
+abbrev pub takenAt : Env → List ℕ → Source → Place → List ℕ
+takenAt e r s (Register n) = taken (registerWords (e .inputs) (e .constants) (e .immediates) r (s .file) n) s
+takenAt e r s Nowhere = zeros
 
 -- What a source reads.
 unfoldable pub sourceOf : Env → List ℕ → Source → List ℕ
-sourceOf e r s = takenAt (fileWords e r (s .file)) s (registerOf (e .declared) r s)
+sourceOf e r s = takenAt e r s (registerOf (e .declared) r s)
 
 -- ---- destinations
 
@@ -98,6 +106,9 @@ masked mask put l = ifMasked mask 3 put (ifMasked mask 2 put (ifMasked mask 1 pu
 unfoldable pub firstWord : Destination → ℕ
 firstWord d = cond (eqb (d .file) 3) (4 * d .index) (cond (eqb (d .file) 4) (128 + 4 * d .index) 1152)
 
--- The registers after a result of four words went to a destination.
+-- The registers after a result of four words went to a destination: word i to its place there.
+abbrev pub placed : Destination → List ℕ → ℕ → List ℕ → List ℕ
+placed d v i r = set r (firstWord d + i) (getD v i 0)
+
 unfoldable pub written : List ℕ → Destination → List ℕ → List ℕ
-written r d v = masked (d .mask) (λ i r. set r (firstWord d + i) (getD v i 0)) r
+written r d v = masked (d .mask) (placed d v) r

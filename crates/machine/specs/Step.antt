@@ -3,20 +3,20 @@
 use Prim.Native.Nat.{ℕ}
 use mathlib.Core.List.{List, []}
 use lib.ListN.{getD, drop}
-use Rattle.format.specs.Fields.{sourceAt, caseWord}
+use Rattle.format.specs.Fields.{caseWord}
 use Rattle.blocks.specs.Control.{Machine}
 use Rattle.blocks.specs.Run.{Step}
 use Rattle.blocks.specs.declared.Next.{Next}
-use Rattle.machine.specs.Operands.{Env, State, sourceOf, declaredIn}
-use Rattle.machine.specs.Effect.{effect, state}
+use Rattle.machine.specs.Operands.{Env, State, declaredIn}
+use Rattle.machine.specs.Effect.{effect, sourcesOf, state, xOf}
 
 abbrev pub env : List ℕ → List ℕ → List ℕ → List ℕ → Env
 env inputs constants immediates declared =
     record { inputs = inputs; constants = constants; immediates = immediates; declared = declaredIn declared }
 
--- src0.x of a UIF or SWITCH: its one source stands from byte 1 on.
-unfoldable pub testOf : Env → List ℕ → List ℕ → ℕ
-testOf e r bytes = getD (sourceOf e r (sourceAt bytes 1)) 0 0
+-- What a UIF or SWITCH looks at, src0.x.
+abbrev pub testOf : Env → List ℕ → List ℕ → ℕ
+testOf e r bytes = xOf (sourcesOf e r bytes) 0
 
 -- The instructions of a file, `place n` being the place of instruction n.
 abbrev pub machineOf : Env → List ℕ → (ℕ → ℕ) → Machine State

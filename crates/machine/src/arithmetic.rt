@@ -1,4 +1,8 @@
 // Results on words, component by component. Each family is a match over its kinds, in document 01's order.
+use crate::operands::first_word;
+use crate::operands::is_masked;
+use crate::operands::set_word;
+use format::fields::Destination;
 use words::bits::and32;
 use words::bits::brev32;
 use words::bits::imsb32;
@@ -35,11 +39,12 @@ use words::sums::umad32;
 use words::sums::umulhi32;
 ghost use mathlib.Core.Path.{_≡_};
 ghost use Prim.Native.Nat.{_<_, _≤_};
-ghost use Rattle.machine.specs.Arithmetic.{unary, binary, ternary, atomic, unaryOf, binaryOf, ternaryOf, bfiOf};
+ghost use Rattle.machine.specs.Operands.{ifMasked, placed, written};
+ghost use Rattle.machine.specs.Arithmetic.{atomic, wordOf, wordsOf};
 
-fn unary_word(kind: u8, a: u32) -> u32
-    requires { ⌜ (0x10 ≤ kind) × (kind < 0x1B) ⌝ }
-    ensures { λ r. ⌜ r ≡ unary kind a ⌝ }
+// A result on words, from one component of each source: the table of kinds, in its order.
+fn word(kind: u8, a: u32, b: u32, c: u32, d: u32) -> u32
+    ensures { λ r. ⌜ r ≡ wordOf kind a b c d ⌝ }
 {
     match kind {
         0x10 => a,
@@ -53,27 +58,6 @@ fn unary_word(kind: u8, a: u32) -> u32
         0x18 => imsb32(a),
         0x19 => umsb32(a),
         0x1a => a,
-        _ => 0,
-    }
-}
-
-pub fn unary_words(kind: u8, a: [u32; 4]) -> [u32; 4]
-    requires { ⌜ (0x10 ≤ kind) × (kind < 0x1B) ⌝ }
-    ensures { λ r. ⌜ r ≡ unaryOf kind a ⌝ }
-{
-    [
-        unary_word(kind, a[0]),
-        unary_word(kind, a[1]),
-        unary_word(kind, a[2]),
-        unary_word(kind, a[3]),
-    ]
-}
-
-fn binary_word(kind: u8, a: u32, b: u32) -> u32
-    requires { ⌜ (0x20 ≤ kind) × (kind < 0x38) ⌝ }
-    ensures { λ r. ⌜ r ≡ binary kind a b ⌝ }
-{
-    match kind {
         0x20 => add32(a, b),
         0x21 => mul32(a, b),
         0x22 => imulhi32(a, b),
@@ -98,56 +82,41 @@ fn binary_word(kind: u8, a: u32, b: u32) -> u32
         0x35 => flag32(b <= a),
         0x36 => flag32(a == b),
         0x37 => flag32(a != b),
-        _ => 0,
-    }
-}
-
-pub fn binary_words(kind: u8, a: [u32; 4], b: [u32; 4]) -> [u32; 4]
-    requires { ⌜ (0x20 ≤ kind) × (kind < 0x38) ⌝ }
-    ensures { λ r. ⌜ r ≡ binaryOf kind a b ⌝ }
-{
-    [
-        binary_word(kind, a[0], b[0]),
-        binary_word(kind, a[1], b[1]),
-        binary_word(kind, a[2], b[2]),
-        binary_word(kind, a[3], b[3]),
-    ]
-}
-
-fn ternary_word(kind: u8, a: u32, b: u32, c: u32) -> u32
-    requires { ⌜ (0x60 ≤ kind) × (kind < 0x64) ⌝ }
-    ensures { λ r. ⌜ r ≡ ternary kind a b c ⌝ }
-{
-    match kind {
         0x60 => umad32(a, b, c),
         0x61 => ucmp32(a, b, c),
         0x62 => ibfe32(a, b, c),
         0x63 => ubfe32(a, b, c),
+        0x70 => bfi32(a, b, c, d),
         _ => 0,
     }
 }
 
-pub fn ternary_words(kind: u8, a: [u32; 4], b: [u32; 4], c: [u32; 4]) -> [u32; 4]
-    requires { ⌜ (0x60 ≤ kind) × (kind < 0x64) ⌝ }
-    ensures { λ r. ⌜ r ≡ ternaryOf kind a b c ⌝ }
+// Writes component i of a result on words; one that the mask does not have is not asked for.
+fn put_word(registers: &mut [u32], d: Destination, kind: u8, sources: &[[u32; 4]; 4], i: u8)
+    requires { ⌜ i < 4 ⌝ }
+    ensures { λ _. ⌜ now (registers .exit) ≡ ifMasked (d .mask) i (placed d (wordsOf kind (now (sources .entry)))) (now (registers .entry)) ⌝ }
 {
-    [
-        ternary_word(kind, a[0], b[0], c[0]),
-        ternary_word(kind, a[1], b[1], c[1]),
-        ternary_word(kind, a[2], b[2], c[2]),
-        ternary_word(kind, a[3], b[3], c[3]),
-    ]
+    if is_masked(d.mask, i) {
+        let k = i as usize;
+        let w = word(
+            kind,
+            sources[0][k],
+            sources[1][k],
+            sources[2][k],
+            sources[3][k],
+        );
+        set_word(registers, first_word(d) as usize + k, w);
+    }
 }
 
-pub fn bfi_words(base: [u32; 4], insert: [u32; 4], offset: [u32; 4], bits: [u32; 4]) -> [u32; 4]
-    ensures { λ r. ⌜ r ≡ bfiOf base insert offset bits ⌝ }
+pub fn write_words(registers: &mut [u32], d: Destination, kind: u8, sources: &[[u32; 4]; 4])
+    ensures { λ _. ⌜ now (registers .exit) ≡ written (now (registers .entry)) d (wordsOf kind (now (sources .entry))) ⌝ }
 {
-    [
-        bfi32(base[0], insert[0], offset[0], bits[0]),
-        bfi32(base[1], insert[1], offset[1], bits[1]),
-        bfi32(base[2], insert[2], offset[2], bits[2]),
-        bfi32(base[3], insert[3], offset[3], bits[3]),
-    ]
+    let mut i: u8 = 0;
+    while i < 4 {
+        put_word(registers, d, kind, sources, i);
+        i += 1;
+    }
 }
 
 // What an atomic stores, by the old word and src1.x.

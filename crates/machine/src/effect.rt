@@ -1,14 +1,10 @@
 // The effect of an instruction on registers and memory: a match on the kind with ranges.
 use crate::arithmetic::atomic_word;
-use crate::arithmetic::bfi_words;
-use crate::arithmetic::binary_words;
-use crate::arithmetic::ternary_words;
-use crate::arithmetic::unary_words;
+use crate::arithmetic::write_words;
 use crate::memory::load;
 use crate::memory::load_from;
 use crate::memory::store;
 use crate::memory::store_from;
-use crate::operands::Operands;
 use crate::operands::write;
 use crate::wide::wide_unary_words;
 use crate::wide::wide_words;
@@ -44,20 +40,35 @@ fn atomic_cas(
     write(registers, d, [old, old, old, old]);
 }
 
-pub fn effect(kind: u8, d: Destination, o: Operands, registers: &mut [u32], memory: &mut [u32])
-    ensures { λ r. ⌜ state (now (registers .exit)) (now (memory .exit)) ≡ effectOf (familyOf kind) kind d o (state (now (registers .entry)) (now (memory .entry))) ⌝ }
+pub fn effect(
+    kind: u8,
+    d: Destination,
+    sources: &[[u32; 4]; 4],
+    registers: &mut [u32],
+    memory: &mut [u32],
+)
+    ensures { λ r. ⌜ state (now (registers .exit)) (now (memory .exit)) ≡ effectOf (familyOf kind) kind d (now (sources .entry)) (state (now (registers .entry)) (now (memory .entry))) ⌝ }
 {
     match kind {
-        0x10..=0x1a => write(registers, d, unary_words(kind, o.a)),
-        0x1b..=0x1d => write(registers, d, wide_unary_words(kind, o.a)),
-        0x1e => write(registers, d, load_from(memory, o.a[0])),
-        0x20..=0x37 => write(registers, d, binary_words(kind, o.a, o.b)),
-        0x40..=0x52 => write(registers, d, wide_words(kind, o.a, o.b)),
-        0x58 => store_from(memory, o.a[0], d.mask, o.b),
-        0x56..=0x5f => atomic(kind, d, o.a[0], o.b[0], registers, memory),
-        0x60..=0x63 => write(registers, d, ternary_words(kind, o.a, o.b, o.c)),
-        0x64 => atomic_cas(d, o.a[0], o.b[0], o.c[0], registers, memory),
-        0x70 => write(registers, d, bfi_words(o.a, o.b, o.c, o.d)),
+        0x10..=0x1a => write_words(registers, d, kind, sources),
+        0x1b..=0x1d => write(registers, d, wide_unary_words(kind, sources[0])),
+        0x1e => write(registers, d, load_from(memory, sources[0][0])),
+        0x20..=0x37 => write_words(registers, d, kind, sources),
+        0x40..=0x52 => write(registers, d, wide_words(kind, sources[0], sources[1])),
+        0x58 => store_from(memory, sources[0][0], d.mask, sources[1]),
+        0x56..=0x5f => atomic(kind, d, sources[0][0], sources[1][0], registers, memory),
+        0x60..=0x63 => write_words(registers, d, kind, sources),
+        0x64 => {
+            atomic_cas(
+                d,
+                sources[0][0],
+                sources[1][0],
+                sources[2][0],
+                registers,
+                memory,
+            );
+        }
+        0x70 => write_words(registers, d, kind, sources),
         _ => {}
     }
 }

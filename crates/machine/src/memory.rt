@@ -1,5 +1,6 @@
 // Memory by byte address: a word that is misaligned or outside reads 0, and its write is dropped.
 use crate::operands::is_masked;
+use crate::operands::set_word;
 use crate::operands::word_at;
 ghost use mathlib.Core.Path.{_≡_};
 ghost use Prim.Native.Nat.{_+_, _*_, _<_};
@@ -20,10 +21,7 @@ pub fn store(memory: &mut [u32], address: usize, word: u32)
     ensures { λ r. ⌜ now (memory .exit) ≡ stored (now (memory .entry)) address word ⌝ }
 {
     if address % 4 == 0 {
-        let at = address / 4;
-        if at < memory.len() {
-            memory[at] = word;
-        }
+        set_word(memory, address / 4, word);
     }
 }
 

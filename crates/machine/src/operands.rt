@@ -2,7 +2,9 @@
 use format::fields::Destination;
 use format::fields::Source;
 use format::fields::byte_at;
-use format::fields::source_at;
+use format::fields::source_in;
+use format::kinds::destinations_of;
+use format::kinds::sources_of;
 use words::sums::neg32;
 ghost use mathlib.Core.Path.{_≡_};
 ghost use mathlib.Core.Bool.{cond};
@@ -11,9 +13,8 @@ ghost use lib.Dec.{eqb};
 ghost use lib.ListN.{getD, set};
 ghost use lib.IntN.{pos, _+ℤ_};
 ghost use Rattle.words.specs.Word.{bit, signed};
-ghost use Rattle.format.specs.Fields.{sourceAt};
-ghost use Rattle.machine.specs.Operands.{bitIn, declaredIn, ifDeclared, registerOf, selected, negated, taken, sourceOf, ifMasked, firstWord, written};
-ghost use Rattle.machine.specs.Effect.{operandsOf};
+ghost use Rattle.machine.specs.Operands.{bitIn, declaredIn, ifDeclared, registerOf, selected, negated, fourAt, registerWords, taken, sourceOf, ifMasked, firstWord, written};
+ghost use Rattle.machine.specs.Effect.{readAt, sourcesOf};
 ghost use Rattle.machine.specs.Step.{env};
 
 // The register that a source names, or none.
@@ -22,19 +23,20 @@ pub enum Place {
     Nowhere,
 }
 
-// The components of the sources, in their order.
-pub struct Operands {
-    pub a: [u32; 4],
-    pub b: [u32; 4],
-    pub c: [u32; 4],
-    pub d: [u32; 4],
-}
-
 // A word of lent words, 0 past their end.
 pub fn word_at(words: &[u32], at: usize) -> u32
     ensures { λ r. ⌜ r ≡ getD (now (words .entry)) at 0 ⌝ }
 {
     if at < words.len() { words[at] } else { 0 }
+}
+
+// Sets a word of lent words; past their end there is none.
+pub fn set_word(words: &mut [u32], at: usize, word: u32)
+    ensures { λ _. ⌜ now (words .exit) ≡ set (now (words .entry)) at word ⌝ }
+{
+    if at < words.len() {
+        words[at] = word;
+    }
 }
 
 fn bit_in(words: &[u32], i: u32) -> bool
@@ -104,24 +106,60 @@ fn select(swizzle: u8, i: u8) -> u8
     (swizzle >> (2 * i)) % 4
 }
 
-// Component i of the register whose words begin at `first`.
-fn component(words: &[u32], s: Source, first: usize, i: u8) -> u32
-    requires { ⌜ (first < 2 ^ 40) × (i < 4) ⌝ }
-    ensures { λ r. ⌜ r ≡ negated (s .modifier) (getD (now (words .entry)) (first + selected (s .swizzle) i) 0) ⌝ }
+// The four words from `first` on, 0 where they are not all there.
+fn four_at(words: &[u32], first: usize) -> [u32; 4]
+    requires { ⌜ first < 2 ^ 40 ⌝ }
+    ensures { λ r. ⌜ r ≡ fourAt (now (words .entry)) first ⌝ }
 {
-    let w = word_at(words, first + select(s.swizzle, i) as usize);
+    if words.len() < first + 4 {
+        return [0, 0, 0, 0];
+    }
+    [
+        words[first],
+        words[first + 1],
+        words[first + 2],
+        words[first + 3],
+    ]
+}
+
+// The words of register n of a file.
+fn register_words(
+    file: u8,
+    n: u32,
+    inputs: &[u32],
+    constants: &[u32],
+    immediates: &[u32],
+    registers: &[u32],
+) -> [u32; 4]
+    ensures { λ r. ⌜ r ≡ registerWords (now (inputs .entry)) (now (constants .entry)) (now (immediates .entry)) (now (registers .entry)) file n ⌝ }
+{
+    let first = 4 * n as usize;
+    match file {
+        1 => four_at(constants, first),
+        2 => four_at(inputs, first),
+        4 => four_at(registers, 128 + first),
+        6 => four_at(immediates, first),
+        _ => [0, 0, 0, 0],
+    }
+}
+
+// Component i of a register's words as a source takes it.
+fn component(words: &[u32; 4], s: Source, i: u8) -> u32
+    requires { ⌜ i < 4 ⌝ }
+    ensures { λ r. ⌜ r ≡ negated (s .modifier) (getD (now (words .entry)) (selected (s .swizzle) i) 0) ⌝ }
+{
+    let w = words[select(s.swizzle, i) as usize];
     if s.modifier % 2 == 1 { neg32(w) } else { w }
 }
 
-fn components(words: &[u32], s: Source, first: usize) -> [u32; 4]
-    requires { ⌜ first < 2 ^ 40 ⌝ }
-    ensures { λ r. ⌜ r ≡ taken (now (words .entry)) s first ⌝ }
+fn components(words: &[u32; 4], s: Source) -> [u32; 4]
+    ensures { λ r. ⌜ r ≡ taken (now (words .entry)) s ⌝ }
 {
     [
-        component(words, s, first, 0),
-        component(words, s, first, 1),
-        component(words, s, first, 2),
-        component(words, s, first, 3),
+        component(words, s, 0),
+        component(words, s, 1),
+        component(words, s, 2),
+        component(words, s, 3),
     ]
 }
 
@@ -139,22 +177,15 @@ pub fn read(
     let place = register_of(s, declared, registers);
     match place {
         Place::Register(n) => {
-            let first = 4 * n as usize;
-            let file = s.file;
-            match file {
-                1 => components(constants, s, first),
-                2 => components(inputs, s, first),
-                4 => components(registers, s, 128 + first),
-                6 => components(immediates, s, first),
-                _ => [0, 0, 0, 0],
-            }
+            let words = register_words(s.file, n, inputs, constants, immediates, registers);
+            components(&words, s)
         }
         Place::Nowhere => [0, 0, 0, 0],
     }
 }
 
-// What the source from byte `at` of a record on reads.
-pub fn read_at(
+// What the source from byte `at` of a record on reads; one whose bytes are not all there reads 0.
+fn read_at(
     bytes: &[u8],
     at: usize,
     inputs: &[u32],
@@ -163,79 +194,46 @@ pub fn read_at(
     declared: &[u32],
     registers: &[u32],
 ) -> [u32; 4]
-    ensures { λ r. ⌜ r ≡ sourceOf (env (now (inputs .entry)) (now (constants .entry)) (now (immediates .entry)) (now (declared .entry))) (now (registers .entry)) (sourceAt (now (bytes .entry)) at) ⌝ }
+    requires { ⌜ at < 2 ^ 40 ⌝ }
+    ensures { λ r. ⌜ r ≡ readAt (env (now (inputs .entry)) (now (constants .entry)) (now (immediates .entry)) (now (declared .entry))) (now (registers .entry)) (now (bytes .entry)) at ⌝ }
 {
-    read(
-        source_at(bytes, at),
-        inputs,
-        constants,
-        immediates,
-        declared,
-        registers,
-    )
+    if bytes.len() < at + 5 {
+        return [0, 0, 0, 0];
+    }
+    let s = source_in(bytes, at);
+    read(s, inputs, constants, immediates, declared, registers)
 }
 
-// All sources of the instruction whose record these bytes begin with.
-pub fn read_operands(
+// All sources of the instruction whose record these bytes begin with, before anything is written.
+pub fn read_sources(
     bytes: &[u8],
     inputs: &[u32],
     constants: &[u32],
     immediates: &[u32],
     declared: &[u32],
     registers: &[u32],
-) -> Operands
-    ensures { λ r. ⌜ r ≡ operandsOf (env (now (inputs .entry)) (now (constants .entry)) (now (immediates .entry)) (now (declared .entry))) (now (registers .entry)) (now (bytes .entry)) ⌝ }
+) -> [[u32; 4]; 4]
+    ensures { λ r. ⌜ r ≡ sourcesOf (env (now (inputs .entry)) (now (constants .entry)) (now (immediates .entry)) (now (declared .entry))) (now (registers .entry)) (now (bytes .entry)) ⌝ }
 {
     let kind = byte_at(bytes, 0);
-    let none = [0u32; 4];
-    let a = read_at(bytes, 5, inputs, constants, immediates, declared, registers);
-    if kind < 0x20 {
-        return Operands {
-            a,
-            b: none,
-            c: none,
-            d: none,
-        };
+    let count = sources_of(kind) as usize;
+    let first = 1 + 4 * destinations_of(kind) as usize;
+    let mut sources = [[0u32; 4]; 4];
+    let mut k: usize = 0;
+    while k < count {
+        let at = first + 5 * k;
+        sources[k] = read_at(
+            bytes,
+            at,
+            inputs,
+            constants,
+            immediates,
+            declared,
+            registers,
+        );
+        k += 1;
     }
-    let b = read_at(
-        bytes,
-        10,
-        inputs,
-        constants,
-        immediates,
-        declared,
-        registers,
-    );
-    if kind < 0x60 {
-        return Operands {
-            a,
-            b,
-            c: none,
-            d: none,
-        };
-    }
-    let c = read_at(
-        bytes,
-        15,
-        inputs,
-        constants,
-        immediates,
-        declared,
-        registers,
-    );
-    if kind < 0x70 {
-        return Operands { a, b, c, d: none };
-    }
-    let d = read_at(
-        bytes,
-        20,
-        inputs,
-        constants,
-        immediates,
-        declared,
-        registers,
-    );
-    Operands { a, b, c, d }
+    sources
 }
 
 // Whether a mask has component i.
@@ -251,14 +249,11 @@ fn put(registers: &mut [u32], mask: u8, i: u8, first: u32, word: u32)
     ensures { λ r. ⌜ now (registers .exit) ≡ ifMasked mask i (λ i l. set l (first + i) word) (now (registers .entry)) ⌝ }
 {
     if is_masked(mask, i) {
-        let at = first as usize + i as usize;
-        if at < registers.len() {
-            registers[at] = word;
-        }
+        set_word(registers, first as usize + i as usize, word);
     }
 }
 
-fn first_word(d: Destination) -> u32
+pub fn first_word(d: Destination) -> u32
     ensures { λ r. ⌜ r ≡ firstWord d ⌝ }
 {
     let file = d.file;

@@ -4,8 +4,7 @@ use crate::labels::after_label;
 use crate::labels::jump_of;
 use crate::labels::label_of;
 use crate::labels::place_of;
-use crate::operands::read_at;
-use crate::operands::read_operands;
+use crate::operands::read_sources;
 use blocks::Next;
 use format::fields::byte_at;
 use format::fields::destination_at;
@@ -14,7 +13,7 @@ ghost use lib.ListN.{drop};
 ghost use Rattle.blocks.specs.Table.{placeIn, rowIn};
 ghost use Rattle.blocks.specs.Run.{step as stepOf};
 ghost use Rattle.machine.specs.Effect.{state};
-ghost use Rattle.machine.specs.Step.{env, testOf, machineOf, stepped};
+ghost use Rattle.machine.specs.Step.{env, machineOf, stepped};
 
 // The bytes from a place on, none past the end.
 fn bytes_from(file: &[u8], at: usize) -> &[u8]
@@ -25,21 +24,6 @@ fn bytes_from(file: &[u8], at: usize) -> &[u8]
     } else {
         &file[..0]
     }
-}
-
-// The x that a UIF or SWITCH looks at.
-fn test(
-    bytes: &[u8],
-    inputs: &[u32],
-    constants: &[u32],
-    immediates: &[u32],
-    declared: &[u32],
-    registers: &[u32],
-) -> u32
-    ensures { λ r. ⌜ r ≡ testOf (env (now (inputs .entry)) (now (constants .entry)) (now (immediates .entry)) (now (declared .entry))) (now (registers .entry)) (now (bytes .entry)) ⌝ }
-{
-    let v = read_at(bytes, 1, inputs, constants, immediates, declared, registers);
-    v[0]
 }
 
 // Carries out instruction n of the prepared rows.
@@ -59,33 +43,31 @@ pub fn step(
     let after = n as usize + 1;
     let bytes = bytes_from(file, place_of(rows, n) as usize);
     let kind = byte_at(bytes, 0);
+    let sources = read_sources(bytes, inputs, constants, immediates, declared, registers);
+    let x = sources[0][0];
     match kind {
         0x10..=0x70 => {
-            let operands = read_operands(bytes, inputs, constants, immediates, declared, registers);
-            effect(kind, destination_at(bytes, 1), operands, registers, memory);
+            effect(kind, destination_at(bytes, 1), &sources, registers, memory);
             Next::At(after)
         }
         0x81 => Next::At(jump_of(rows, n) as usize),
         0x84..=0x86 => Next::At(jump_of(rows, n) as usize),
         0x89 => Next::Ended,
         0x90 => {
-            if test(bytes, inputs, constants, immediates, declared, registers) == 0 {
+            if x == 0 {
                 Next::At(jump_of(rows, n) as usize)
             } else {
                 Next::At(after)
             }
         }
-        0x91 => {
-            let x = test(bytes, inputs, constants, immediates, declared, registers);
-            Next::At(after_label(
-                file,
-                rows,
-                immediates,
-                x,
-                label_of(rows, n),
-                jump_of(rows, n) as usize,
-            ))
-        }
+        0x91 => Next::At(after_label(
+            file,
+            rows,
+            immediates,
+            x,
+            label_of(rows, n),
+            jump_of(rows, n) as usize,
+        )),
         _ => Next::At(after),
     }
 }

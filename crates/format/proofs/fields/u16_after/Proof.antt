@@ -6,4 +6,8 @@ use Rattle.format.proofs.fields.u16_after.Statement.{statement}
 use Rattle.format.proofs.fields.u16_after.Tie as tie
 
 pub u16-after-spec : {M : Type 1} → statement M
-u16-after-spec = tie.close (tie.spec (search needs) (search needs) (search needs) (search needs) (search needs) (search needs) (search needs) (λ c. search (needs, word16-is)))
+u16-after-spec =
+    tie.close
+    (tie.spec
+    (λ c κs. search needs) (search needs) (λ c κs. search needs) (λ c κs. search needs)
+    (λ c. search (needs, word16-is)))

@@ -1,5 +1,5 @@
 -- A word stored by its address: misaligned or past the end nothing changes.
-use Rattle.machine.proofs.Writes.{set-past, stored-aligned, stored-misaligned}
+use Rattle.machine.proofs.Writes.{stored-aligned, stored-misaligned}
 use borrow.Author.Needs.{needs}
 use Rattle.machine.proofs.memory.store.Statement.{statement}
 use Rattle.machine.proofs.memory.store.Tie as tie
@@ -8,7 +8,6 @@ pub store-spec : {M : Type 1} → statement M
 store-spec =
     tie.close
     (tie.spec
-    (search needs) (search needs) (search needs)
+    (search needs) (search needs)
     (λ c. search (needs, stored-aligned))
-    (λ c. search (needs, stored-aligned, set-past))
     (λ c. search (needs, stored-misaligned)))

@@ -1,4 +1,4 @@
--- The four components of a register.
+-- The four components.
 use Rattle.machine.proofs.Sources.{components-are}
 use Rattle.machine.specs.Operands.{taken}
 use borrow.Author.Needs.{needs}

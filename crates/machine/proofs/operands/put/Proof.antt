@@ -1,5 +1,5 @@
--- One component of a result: past the end `set` leaves the words.
-use Rattle.machine.proofs.Writes.{masked-off, masked-on, set-past}
+-- One component of a result.
+use Rattle.machine.proofs.Writes.{masked-off, masked-on}
 use borrow.Author.Needs.{needs}
 use Rattle.machine.proofs.operands.put.Statement.{statement}
 use Rattle.machine.proofs.operands.put.Tie as tie
@@ -8,7 +8,6 @@ pub put-spec : {M : Type 1} → statement M
 put-spec =
     tie.close
     (tie.spec
-    (search needs) (search needs) (search needs) (search needs) (search needs)
+    (search needs) (search needs) (search needs) (search needs)
     (λ c. search (needs, masked-on))
-    (λ c. search (needs, masked-on, set-past))
     (λ c. search (needs, masked-off)))

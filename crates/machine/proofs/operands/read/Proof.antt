@@ -1,5 +1,5 @@
--- What a source reads, by the file of its register.
-use Rattle.machine.proofs.Sources.{source-const, source-imm, source-in, source-nowhere, source-other, source-temp}
+-- The register that the source names, or none.
+use Rattle.machine.proofs.Sources.{source-nowhere, source-register}
 use borrow.Author.Needs.{needs}
 use Rattle.machine.proofs.operands.read.Statement.{statement}
 use Rattle.machine.proofs.operands.read.Tie as tie
@@ -8,11 +8,6 @@ pub read-spec : {M : Type 1} → statement M
 read-spec =
     tie.close
     (tie.spec
-    (search needs) (search needs) (search needs) (search needs) (search needs) (search needs) (search needs)
-    (search needs) (search needs) (search needs)
-    (λ c. search (needs, source-const))
-    (λ c. search (needs, source-in))
-    (λ c. search (needs, source-temp))
-    (λ c. search (needs, source-imm))
-    (λ c. search (needs, source-other))
+    (search needs) (search needs) (search needs) (search needs) (search needs)
+    (λ c. search (needs, source-register))
     (λ c. search (needs, source-nowhere)))

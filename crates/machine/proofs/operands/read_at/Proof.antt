@@ -1,5 +1,5 @@
--- The source that stands there, read.
-use Rattle.machine.proofs.Sources.{read-is}
+-- A source whose bytes are there, or none.
+use Rattle.machine.proofs.Sources.{source-cut, source-there}
 use borrow.Author.Needs.{needs}
 use Rattle.machine.proofs.operands.read_at.Statement.{statement}
 use Rattle.machine.proofs.operands.read_at.Tie as tie
@@ -8,5 +8,7 @@ pub read-at-spec : {M : Type 1} → statement M
 read-at-spec =
     tie.close
     (tie.spec
+    (search needs)
+    (λ c. search (needs, source-cut))
     (search needs) (search needs)
-    (λ c. search (needs, read-is)))
+    (λ c. search (needs, source-there)))

@@ -1,5 +1,5 @@
 -- Past the end both are empty.
-use Rattle.machine.proofs.Steps.{past-rest, rest-of}
+use Rattle.machine.proofs.Sources.{past-rest, rest-of}
 use borrow.Author.Needs.{needs}
 use Rattle.machine.proofs.step.bytes_from.Statement.{statement}
 use Rattle.machine.proofs.step.bytes_from.Tie as tie

@@ -1,5 +1,4 @@
 -- Each arm is the step of a control instruction, of a data instruction, or of a kind that only counts.
--- Assumes nothing.
 use Rattle.machine.proofs.Steps.{data-step, else-step, end-step, falls-above, falls-below, falls-between, jump-step, switch-step, uif-false, uif-true}
 use borrow.Author.Needs.{needs}
 use Rattle.machine.proofs.step.step.Statement.{statement}
@@ -9,8 +8,11 @@ pub step-spec : {M : Type 1} → statement M
 step-spec =
     tie.close
     (tie.spec
-    (search needs) (search needs) (search needs) (search needs) (search needs) (search needs) (search needs) (search needs) (search needs) (search needs) (search needs) (search needs) (search needs) (search needs) (search needs) (search needs) (search needs) (search needs) (search needs) (search needs)
+    (search needs) (search needs) (search needs) (search needs) (search needs) (search needs) (search needs)
+    (search needs) (search needs) (search needs) (search needs) (search needs) (search needs) (search needs)
+    (search needs) (search needs) (search needs) (search needs) (search needs) (search needs) (search needs)
     (λ c. search (needs, else-step))
+    (search needs)
     (λ c. search (needs, end-step))
     (search needs)
     (λ c. search (needs, uif-false))
@@ -20,7 +22,11 @@ step-spec =
     (λ c. search (needs, switch-step))
     (search needs) (search needs)
     (λ c. search (needs, data-step))
+    (search needs)
     (λ c. search (needs, jump-step))
+    (search needs)
     (λ c. search (needs, falls-below))
+    (search needs)
     (λ c. search (needs, falls-between))
+    (search needs)
     (λ c. search (needs, falls-above)))

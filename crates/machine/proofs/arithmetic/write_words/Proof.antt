@@ -1,0 +1,24 @@
+-- One component after the other.
+use Rattle.machine.proofs.Writes.{word-lengths, word-more, words-written, writtenTo}
+use mathlib.Core.Path.{_≡_, refl}
+use Prim.Native.Nat.{_-_, _≤_}
+use Rattle.machine.specs.Arithmetic.{wordsOf}
+use borrow.Author.Needs.{needs}
+use Rattle.machine.proofs.arithmetic.write_words.Statement.{statement}
+use Rattle.machine.proofs.arithmetic.write_words.Tie as tie
+
+abbrev Inv-loop : tie.InvT-loop
+Inv-loop registers₀ d kind sources i₀ registers i = (i ≤ 4) × (registers ≡ writtenTo d (wordsOf kind sources) registers₀ i)
+
+abbrev μ-loop : tie.MeasureT-loop
+μ-loop registers₀ d kind sources i₀ registers i = 4 - i
+
+pub write-words-spec : {M : Type 1} → statement M
+write-words-spec =
+    tie.close
+    (tie.spec Inv-loop μ-loop
+    (λ c. search (needs, refl))
+    (search needs) (search needs) (search needs)
+    (λ c. search (needs, word-more))
+    (λ c. search (needs, word-lengths))
+    (λ c. search (needs, words-written)))

@@ -1,0 +1,16 @@
+-- The register of each file that a source may name.
+use Rattle.machine.proofs.Sources.{register-const, register-imm, register-in, register-none, register-temp}
+use borrow.Author.Needs.{needs}
+use Rattle.machine.proofs.operands.register_words.Statement.{statement}
+use Rattle.machine.proofs.operands.register_words.Tie as tie
+
+pub register-words-spec : {M : Type 1} → statement M
+register-words-spec =
+    tie.close
+    (tie.spec
+    (search needs) (search needs) (search needs) (search needs) (search needs) (search needs)
+    (λ c. search (needs, register-const))
+    (λ c. search (needs, register-in))
+    (λ c. search (needs, register-temp))
+    (λ c. search (needs, register-imm))
+    (λ c. search (needs, register-none)))
