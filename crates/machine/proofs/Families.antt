@@ -1,7 +1,7 @@
 -- Families of instructions: an arm of a match on the kind is the family's table at that kind, and the kinds from one number
 -- to another are all of one family, which a computed test says.
 -- Assumes nothing.
-use Rattle.machine.specs.Arithmetic.{countOr, halves, pair, wide, wideOf, wideUnary, wideUnaryOf, wordOf}
+use Rattle.machine.specs.Arithmetic.{countOr, halves, pair, wide, wideOf, wideUnary, wideUnaryOf, resultWord}
 use Rattle.format.specs.Kinds.{within}
 use Prim.Native.Nat.{_+_, _<_, _≤_, suc, zero, ℕ}
 use mathlib.Core.Path.{_≡_, refl}
@@ -22,7 +22,7 @@ arm₁ f n k a r h e = rw h e
 pub arm₂ : (f : ℕ → ℕ → ℕ → ℕ) (n k a b r : ℕ) → k ≡ n → r ≡ f n a b → r ≡ f k a b
 arm₂ f n k a b r h e = rw h e
 
-pub arm-word : (n k a b c d r : ℕ) → k ≡ n → r ≡ wordOf n a b c d → r ≡ wordOf k a b c d
+pub arm-word : (n k a b c d r : ℕ) → k ≡ n → r ≡ resultWord n a b c d → r ≡ resultWord k a b c d
 arm-word n k a b c d r h e = rw h e
 
 -- a comparison's flag
@@ -64,8 +64,8 @@ pub avoids-all : (lo n k : ℕ) → Avoids lo n k → lo ≤ k → k < lo + n �
 avoids-all lo n k = avoids (Unit {0}) lo n k
 
 -- a kind that none of the four groups of results on words has
-pub no-word : (k a b c d : ℕ) → AvoidsAlso (AvoidsAlso (AvoidsAlso (Avoids 0x10 11 k) 0x20 24 k) 0x60 4 k) 0x70 1 k → 0 ≡ wordOf k a b c d
-unfolding wordOf
+pub no-word : (k a b c d : ℕ) → AvoidsAlso (AvoidsAlso (AvoidsAlso (Avoids 0x10 11 k) 0x20 24 k) 0x60 4 k) 0x70 1 k → 0 ≡ resultWord k a b c d
+unfolding resultWord
 no-word k a b c d h =
     simp (outside (Unit {0}) 0x10 10 k (also _ 0x20 24 k (also _ 0x60 4 k (h .0))), outside _ 0x20 23 k (also _ 0x60 4 k (h .0)), outside _ 0x60 3 k (h .0), ne-eqb k 0x70 (h .1))
 

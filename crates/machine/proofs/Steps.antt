@@ -3,7 +3,7 @@
 use Rattle.machine.specs.Effect.{NONE, effectOf, familyOf, recordEffect, sourcesOf, state}
 use Rattle.machine.specs.Step.{labelsOf, machineOf, stepped, testOf}
 use Rattle.machine.specs.Operands.{Env, State}
-use Rattle.machine.specs.Arithmetic.{of}
+use Rattle.machine.specs.Arithmetic.{sourceWord}
 use Rattle.machine.proofs.Effects.{kindIn, same-family}
 use Rattle.machine.proofs.Walks.{walk-labels}
 use Rattle.format.specs.Kinds.{within}
@@ -86,23 +86,23 @@ module _ (e : Env) (file rows : List ℕ) (n : ℕ) (r m : List ℕ) where
           (eq-or-lt-of-le a)
 
     module _ (o : List (List ℕ)) (eo : o ≡ sourcesOf e r bytes) where
-      ex : of o 0 0 ≡ testOf e r bytes
+      ex : sourceWord o 0 0 ≡ testOf e r bytes
       ex = rw eo
 
-      pub uif-false : (j : ℕ) → k ≡ 0x90 → of o 0 0 ≡ 0 → j ≡ rowIn rows n .jump → stepped (At j) r m ≡ here
+      pub uif-false : (j : ℕ) → k ≡ 0x90 → sourceWord o 0 0 ≡ 0 → j ≡ rowIn rows n .jump → stepped (At j) r m ≡ here
       unfolding opOf
       uif-false j h z ej = control UIF 0x90 refl refl (At j) h (rw (← ex, z, ej))
 
-      pub uif-true : k ≡ 0x90 → (of o 0 0 ≡ 0 → ⊥) → stepped (At (n + 1)) r m ≡ here
+      pub uif-true : k ≡ 0x90 → (sourceWord o 0 0 ≡ 0 → ⊥) → stepped (At (n + 1)) r m ≡ here
       unfolding opOf
-      uif-true h z = control UIF 0x90 refl refl (At (n + 1)) h (rw (← ex, ne-eqb (of o 0 0) 0 z, add-one n))
+      uif-true h z = control UIF 0x90 refl refl (At (n + 1)) h (rw (← ex, ne-eqb (sourceWord o 0 0) 0 z, add-one n))
 
       pub switch-step : (l j w : ℕ) → k ≡ 0x91 → l ≡ rowIn rows n .label → j ≡ rowIn rows n .jump
-          → w ≡ walk (labelsOf (e .immediates) file (placeIn rows)) (rowIn rows) mostInstructions (of o 0 0) l j → stepped (At w) r m ≡ here
+          → w ≡ walk (labelsOf (e .immediates) file (placeIn rows)) (rowIn rows) mostInstructions (sourceWord o 0 0) l j → stepped (At w) r m ≡ here
       unfolding opOf
       switch-step l j w h el ej ew =
           control SWITCH 0x91 refl refl (At w) h
-          (ap At (ew ∙ (walk-labels e file (placeIn rows) (rowIn rows) mostInstructions (of o 0 0) l j ∙ rw (ex, el, ej))))
+          (ap At (ew ∙ (walk-labels e file (placeIn rows) (rowIn rows) mostInstructions (sourceWord o 0 0) l j ∙ rw (ex, el, ej))))
 
     -- ---- other kinds
 

@@ -2,7 +2,7 @@
 -- Assumes nothing.
 use Rattle.machine.specs.Operands.{components, firstWord, ifMasked, masked, placed, written}
 use Rattle.machine.specs.Memory.{loaded, loadedFrom, stored, storedFrom}
-use Rattle.machine.specs.Arithmetic.{of, wordOf, wordsOf}
+use Rattle.machine.specs.Arithmetic.{sourceWord, resultWord, resultWords}
 use Rattle.words.specs.Word.{bit}
 use Prim.Native.Nat.{_%_, _*_, _+_, _/_, _<_, _≤_, suc, zero, ℕ}
 use mathlib.Core.Path.{_∙_, _≡_, ap, refl, sym}
@@ -87,8 +87,8 @@ word-placed d v r q i first w t et h ef ew eq =
     rw (← et, h) here
 
 -- component i of a result on words
-pub word-is : (k : ℕ) (o : List (List ℕ)) (i w : ℕ) → i < 4 → w ≡ wordOf k (of o 0 i) (of o 1 i) (of o 2 i) (of o 3 i) → w ≡ getD (wordsOf k o) i 0
-unfolding wordsOf components
+pub word-is : (k : ℕ) (o : List (List ℕ)) (i w : ℕ) → i < 4 → w ≡ resultWord k (sourceWord o 0 i) (sourceWord o 1 i) (sourceWord o 2 i) (sourceWord o 3 i) → w ≡ getD (resultWords k o) i 0
+unfolding resultWords components
 word-is k o zero w h e = e
 word-is k o (suc zero) w h e = e
 word-is k o (suc (suc zero)) w h e = e

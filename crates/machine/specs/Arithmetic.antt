@@ -94,19 +94,19 @@ unfoldable pub atomic : ℕ → ℕ → ℕ → ℕ
 atomic k old b = getD (atomics old b) (k - 0x56) 0
 
 -- All kinds whose result is made word by word, from one component of each source. BFI, kind 70: base, insert, offset, bits.
-unfoldable pub wordOf : ℕ → ℕ → ℕ → ℕ → ℕ → ℕ
-wordOf k a b c d =
+unfoldable pub resultWord : ℕ → ℕ → ℕ → ℕ → ℕ → ℕ
+resultWord k a b c d =
     cond (within 0x10 0x1A k) (unary k a)
     (cond (within 0x20 0x37 k) (binary k a b)
     (cond (within 0x60 0x63 k) (ternary k a b c)
     (cond (eqb k 0x70) (bfi 32 a b c d) 0)))
 
 -- Component i of source j.
-abbrev pub of : List (List ℕ) → ℕ → ℕ → ℕ
-of sources j i = getD (getD sources j []) i 0
+abbrev pub sourceWord : List (List ℕ) → ℕ → ℕ → ℕ
+sourceWord sources j i = getD (getD sources j []) i 0
 
-unfoldable pub wordsOf : ℕ → List (List ℕ) → List ℕ
-wordsOf k sources = components (λ i. wordOf k (of sources 0 i) (of sources 1 i) (of sources 2 i) (of sources 3 i))
+unfoldable pub resultWords : ℕ → List (List ℕ) → List ℕ
+resultWords k sources = components (λ i. resultWord k (sourceWord sources 0 i) (sourceWord sources 1 i) (sourceWord sources 2 i) (sourceWord sources 3 i))
 
 -- ---- on pairs of words
 

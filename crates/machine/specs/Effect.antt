@@ -11,7 +11,7 @@ use Rattle.format.specs.Fields.{destinationAt, sourceAt}
 use Rattle.format.specs.declared.fields.Destination.{Destination}
 use Rattle.machine.specs.Operands.{Env, State, components, zeros, sourceOf, written}
 use Rattle.machine.specs.Memory.{loaded, stored, loadedFrom, storedFrom}
-use Rattle.machine.specs.Arithmetic.{of, wordsOf, atomic, wideUnaryOf, wideOf}
+use Rattle.machine.specs.Arithmetic.{sourceWord, resultWords, atomic, wideUnaryOf, wideOf}
 
 abbrev pub state : List ℕ → List ℕ → State
 state r m = record { registers = r; memory = m }
@@ -73,10 +73,10 @@ exchange d s a new =
 -- "Memory addresses are bytes, src0.x." "Atomics act on the one word with src1.x" "ATOMCAS stores src2.x if the old word equals
 -- src1.x." (01, Instruction corners): component x of source j.
 abbrev pub xOf : List (List ℕ) → ℕ → ℕ
-xOf sources j = of sources j 0
+xOf sources j = sourceWord sources j 0
 
 abbrev pub effectOf : Family → ℕ → Destination → List (List ℕ) → State → State
-effectOf WORDS k d o s = result d s (wordsOf k o)
+effectOf WORDS k d o s = result d s (resultWords k o)
 effectOf WIDE-UNARY k d o s = result d s (wideUnaryOf k (getD o 0 []))
 effectOf LOAD k d o s = result d s (loadedFrom (s .memory) (xOf o 0))
 effectOf WIDE k d o s = result d s (wideOf k (getD o 0 []) (getD o 1 []))

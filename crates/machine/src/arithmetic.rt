@@ -40,11 +40,11 @@ use words::sums::umulhi32;
 ghost use mathlib.Core.Path.{_≡_};
 ghost use Prim.Native.Nat.{_<_, _≤_};
 ghost use Rattle.machine.specs.Operands.{ifMasked, placed, written};
-ghost use Rattle.machine.specs.Arithmetic.{atomic, wordOf, wordsOf};
+ghost use Rattle.machine.specs.Arithmetic.{atomic, resultWord, resultWords};
 
 // A result on words, from one component of each source: the table of kinds, in its order.
 fn word(kind: u8, a: u32, b: u32, c: u32, d: u32) -> u32
-    ensures { λ r. ⌜ r ≡ wordOf kind a b c d ⌝ }
+    ensures { λ r. ⌜ r ≡ resultWord kind a b c d ⌝ }
 {
     match kind {
         0x10 => a,
@@ -94,7 +94,7 @@ fn word(kind: u8, a: u32, b: u32, c: u32, d: u32) -> u32
 // Writes component i of a result on words; one that the mask does not have is not asked for.
 fn put_word(registers: &mut [u32], d: Destination, kind: u8, sources: &[[u32; 4]; 4], i: u8)
     requires { ⌜ i < 4 ⌝ }
-    ensures { λ _. ⌜ now (registers .exit) ≡ ifMasked (d .mask) i (placed d (wordsOf kind (now (sources .entry)))) (now (registers .entry)) ⌝ }
+    ensures { λ _. ⌜ now (registers .exit) ≡ ifMasked (d .mask) i (placed d (resultWords kind (now (sources .entry)))) (now (registers .entry)) ⌝ }
 {
     if is_masked(d.mask, i) {
         let k = i as usize;
@@ -110,7 +110,7 @@ fn put_word(registers: &mut [u32], d: Destination, kind: u8, sources: &[[u32; 4]
 }
 
 pub fn write_words(registers: &mut [u32], d: Destination, kind: u8, sources: &[[u32; 4]; 4])
-    ensures { λ _. ⌜ now (registers .exit) ≡ written (now (registers .entry)) d (wordsOf kind (now (sources .entry))) ⌝ }
+    ensures { λ _. ⌜ now (registers .exit) ≡ written (now (registers .entry)) d (resultWords kind (now (sources .entry))) ⌝ }
 {
     let mut i: u8 = 0;
     while i < 4 {

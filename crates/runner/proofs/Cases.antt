@@ -16,10 +16,9 @@ use Rattle.blocks.specs.Table.{firstLabel, rows, table, wordsOf}
 use Rattle.checker.specs.Check.{walk, checkOf}
 use Rattle.checker.specs.Findings.{withDeclaration, declarationFinding, withImmediate, immediateFinding, sourceFound, operandsFound, withInstruction, instructionFinding, recordFinding}
 use Rattle.checker.specs.Rules.{destinationRule, sourceRule, allOperands, declarationRule}
-use Rattle.machine.specs.Operands.{components, fileWords, registerOf, taken, sourceOf, ifMasked, masked, firstWord, written}
-use Rattle.machine.specs.Arithmetic.{unary, unaryOf, binary, ternary, wide, halves, countOr, wideOf, bfiOf}
-use Rattle.machine.specs.Effect.{operandsOf, familyOf, recordEffect}
-use Rattle.machine.specs.Step.{testOf}
+use Rattle.machine.specs.Operands.{components, fourAt, registerWords, registerOf, taken, sourceOf, ifMasked, masked, firstWord, written}
+use Rattle.machine.specs.Arithmetic.{unary, binary, ternary, resultWord, resultWords, wide, halves, countOr, wideOf}
+use Rattle.machine.specs.Effect.{sourcePlace, readAt, nthSource, sourcesOf, familyOf, recordEffect}
 use Rattle.runner.specs.Answers.{Answer, refusal, ready, end, halt, Result}
 use Rattle.runner.specs.Whole.{lentRefusal, cleared, carriedOut, runAccepted, runOf}
 
@@ -53,16 +52,16 @@ shown r = numbers (r .answer) ++ take 2 (r .lent .registers)
 -- Cases 1 to 10, by the kinds of the instructions.
 instructions : List (List ℕ)
 instructions =
-    (binary 0x20 0xFFFF_FFFF 1 ∷ [])
-    ∷ (binary 0x32 0x8000_0000 0 ∷ binary 0x33 0x8000_0000 0 ∷ [])
-    ∷ (binary 0x24 0x8000_0000 0xFFFF_FFFF ∷ binary 0x26 0x8000_0000 0xFFFF_FFFF ∷ [])
-    ∷ (binary 0x25 7 0 ∷ binary 0x24 7 0 ∷ [])
-    ∷ (binary 0x2F 1 33 ∷ [])
-    ∷ (ternary 0x63 0xABCD 4 8 ∷ ternary 0x62 0xABCD 4 8 ∷ ternary 0x63 0xABCD 30 3 ∷ [])
-    ∷ take 1 (bfiOf (0xFFFF_FFFF ∷ []) (0 ∷ []) (8 ∷ []) (8 ∷ []))
-    ∷ (unary 0x18 0xFFFF_FFFE ∷ unary 0x19 1 ∷ unary 0x17 8 ∷ [])
+    (resultWord 0x20 0xFFFF_FFFF 1 0 0 ∷ [])
+    ∷ (resultWord 0x32 0x8000_0000 0 0 0 ∷ resultWord 0x33 0x8000_0000 0 0 0 ∷ [])
+    ∷ (resultWord 0x24 0x8000_0000 0xFFFF_FFFF 0 0 ∷ resultWord 0x26 0x8000_0000 0xFFFF_FFFF 0 0 ∷ [])
+    ∷ (resultWord 0x25 7 0 0 0 ∷ resultWord 0x24 7 0 0 0 ∷ [])
+    ∷ (resultWord 0x2F 1 33 0 0 ∷ [])
+    ∷ (resultWord 0x63 0xABCD 4 8 0 ∷ resultWord 0x62 0xABCD 4 8 0 ∷ resultWord 0x63 0xABCD 30 3 0 ∷ [])
+    ∷ (resultWord 0x70 0xFFFF_FFFF 0 8 8 ∷ [])
+    ∷ (resultWord 0x18 0xFFFF_FFFE 0 0 0 ∷ resultWord 0x19 1 0 0 0 ∷ resultWord 0x17 8 0 0 0 ∷ [])
     ∷ take 2 (wideOf 0x40 (0xFFFF_FFFF ∷ 0 ∷ []) (1 ∷ 0 ∷ []))
-    ∷ (binary 0x23 0xFFFF_FFFF 0xFFFF_FFFF ∷ binary 0x22 0xFFFF_FFFF 0xFFFF_FFFF ∷ [])
+    ∷ (resultWord 0x23 0xFFFF_FFFF 0xFFFF_FFFF 0 0 ∷ resultWord 0x22 0xFFFF_FFFF 0xFFFF_FFFF 0 0 ∷ [])
     ∷ []
 
 -- Cases 11 to 13: the empty file; the 34 bytes with their table and the budgets 2, 1 and 0; the BRK in a SWITCH in a loop.
@@ -95,5 +94,5 @@ cases : instructions ++ runs
     ∷ (1 ∷ 0 ∷ 0 ∷ 0 ∷ 0 ∷ [])
     ∷ (0 ∷ 5 ∷ 0 ∷ 0 ∷ [])
     ∷ []
-unfolding instructions file12 file13 ran numbers shown runs lengthOf word16 word32 destinationAt sourceAt declarationAt caseWord sizeAt next placeFrom opOf listFrom tableWords read past rounds reading firstLabel rows table wordsOf walk checkOf withDeclaration declarationFinding withImmediate immediateFinding sourceFound operandsFound withInstruction instructionFinding recordFinding destinationRule sourceRule allOperands declarationRule components fileWords registerOf taken sourceOf ifMasked masked firstWord written unary unaryOf operandsOf familyOf recordEffect testOf lentRefusal cleared carriedOut runAccepted runOf binary ternary wide halves countOr wideOf bfiOf signed word lsb umsb imsb least greatest outside ubfe ibfe bfi
+unfolding instructions file12 file13 ran numbers shown runs lengthOf word16 word32 destinationAt sourceAt declarationAt caseWord sizeAt next placeFrom opOf listFrom tableWords read past rounds reading firstLabel rows table wordsOf walk checkOf withDeclaration declarationFinding withImmediate immediateFinding sourceFound operandsFound withInstruction instructionFinding recordFinding destinationRule sourceRule allOperands declarationRule components fourAt registerWords registerOf taken sourceOf ifMasked masked firstWord written unary resultWord resultWords sourcePlace readAt nthSource sourcesOf familyOf recordEffect lentRefusal cleared carriedOut runAccepted runOf binary ternary wide halves countOr wideOf signed word lsb umsb imsb least greatest outside ubfe ibfe bfi
 cases = refl

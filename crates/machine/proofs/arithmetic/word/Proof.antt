@@ -1,12 +1,12 @@
 -- Each arm is the table of kinds at its kind.
 use Rattle.machine.proofs.Families.{arm-word, flagged, flagged-not, no-word}
-use Rattle.machine.specs.Arithmetic.{binary, ternary, unary, wordOf}
+use Rattle.machine.specs.Arithmetic.{binary, ternary, unary, resultWord}
 use borrow.Author.Needs.{needs}
 use Rattle.machine.proofs.arithmetic.word.Statement.{statement}
 use Rattle.machine.proofs.arithmetic.word.Tie as tie
 
 pub word-spec : {M : Type 1} → statement M
-unfolding wordOf unary binary ternary
+unfolding resultWord unary binary ternary
 word-spec =
     tie.close
     (tie.spec

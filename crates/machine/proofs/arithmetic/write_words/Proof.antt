@@ -2,13 +2,13 @@
 use Rattle.machine.proofs.Writes.{word-lengths, word-more, words-written, writtenTo}
 use mathlib.Core.Path.{_≡_, refl}
 use Prim.Native.Nat.{_-_, _≤_}
-use Rattle.machine.specs.Arithmetic.{wordsOf}
+use Rattle.machine.specs.Arithmetic.{resultWords}
 use borrow.Author.Needs.{needs}
 use Rattle.machine.proofs.arithmetic.write_words.Statement.{statement}
 use Rattle.machine.proofs.arithmetic.write_words.Tie as tie
 
 abbrev Inv-loop : tie.InvT-loop
-Inv-loop registers₀ d kind sources i₀ registers i = (i ≤ 4) × (registers ≡ writtenTo d (wordsOf kind sources) registers₀ i)
+Inv-loop registers₀ d kind sources i₀ registers i = (i ≤ 4) × (registers ≡ writtenTo d (resultWords kind sources) registers₀ i)
 
 abbrev μ-loop : tie.MeasureT-loop
 μ-loop registers₀ d kind sources i₀ registers i = 4 - i
