@@ -110,12 +110,18 @@ four-there l first h = rw (le-leb (first + 4) (length l) h) (rw (add-zero first)
 pub selected-below : (swizzle i k : ℕ) → k ≡ selected swizzle i → k < 4
 selected-below swizzle i k e = rw e (mod-lt (swizzle / 2 ^ (2 * i)) (omega arith))
 
-module _ (l : List ℕ) (s : Source) (i k : ℕ) (ek : k ≡ selected (s .swizzle) i) where
-  pub component-negated : (x : ℕ) → s .modifier % 2 ≡ 1 → x ≡ neg 32 (getD l k 0) → x ≡ negated (s .modifier) (getD l (selected (s .swizzle) i) 0)
-  component-negated x h e = rw (h, ← ek) e
+module _ (l : List ℕ) (s : Source) (i j k m : ℕ) (ei : i ≡ selected (s .swizzle) 0) (ej : j ≡ selected (s .swizzle) 1) (ek : k ≡ selected (s .swizzle) 2) (em : m ≡ selected (s .swizzle) 3) where
+  -- the four components, which all go the same way
+  by-way : (f : ℕ → ℕ) → ((w : ℕ) → negated (s .modifier) w ≡ f w) → f (getD l i 0) ∷ f (getD l j 0) ∷ f (getD l k 0) ∷ f (getD l m 0) ∷ [] ≡ taken l s
+  unfolding taken components
+  by-way f h = rw (ei, ej, ek, em) (sym (simp h))
 
-  pub component-plain : (s .modifier % 2 ≡ 1 → ⊥) → getD l k 0 ≡ negated (s .modifier) (getD l (selected (s .swizzle) i) 0)
-  component-plain h = rw (ne-eqb (s .modifier % 2) 1 h, ← ek)
+  pub taken-plain : (s .modifier % 2 ≡ 1 → ⊥) → getD l i 0 ∷ getD l j 0 ∷ getD l k 0 ∷ getD l m 0 ∷ [] ≡ taken l s
+  taken-plain h = by-way (λ w. w) (λ w. rw (ne-eqb (s .modifier % 2) 1 h))
+
+  pub taken-negated : (x y z w : ℕ) → s .modifier % 2 ≡ 1 → x ≡ neg 32 (getD l i 0) → y ≡ neg 32 (getD l j 0) → z ≡ neg 32 (getD l k 0) → w ≡ neg 32 (getD l m 0)
+      → x ∷ y ∷ z ∷ w ∷ [] ≡ taken l s
+  taken-negated x y z w h ex ey ez ew = rw (ex, ey, ez, ew) (by-way (neg 32) (λ w. rw h))
 
 -- ---- the register of each file
 

@@ -34,6 +34,9 @@ unfoldable pub nthSource : Env → List ℕ → List ℕ → ℕ → List ℕ
 nthSource e r bytes i =
     cond (ltb i (sources (formOf (kindByte bytes)))) (readAt e r bytes (sourcePlace (kindByte bytes) i)) zeros
 
+abbrev pub noSources : List (List ℕ)
+noSources = zeros ∷ zeros ∷ zeros ∷ zeros ∷ []
+
 -- "All sources are read before any write" (01, Instruction corners)
 unfoldable pub sourcesOf : Env → List ℕ → List ℕ → List (List ℕ)
 sourcesOf e r bytes = nthSource e r bytes 0 ∷ nthSource e r bytes 1 ∷ nthSource e r bytes 2 ∷ nthSource e r bytes 3 ∷ []

@@ -13,8 +13,8 @@ ghost use lib.Dec.{eqb};
 ghost use lib.ListN.{getD, set};
 ghost use lib.IntN.{pos, _+ℤ_};
 ghost use Rattle.words.specs.Word.{bit, signed};
-ghost use Rattle.machine.specs.Operands.{bitIn, declaredIn, ifDeclared, registerOf, selected, negated, fourAt, registerWords, taken, sourceOf, ifMasked, firstWord, written};
-ghost use Rattle.machine.specs.Effect.{readAt, sourcesOf};
+ghost use Rattle.machine.specs.Operands.{bitIn, declaredIn, ifDeclared, registerOf, selected, fourAt, registerWords, taken, sourceOf, ifMasked, firstWord, written};
+ghost use Rattle.machine.specs.Effect.{readAt, noSources, sourcesOf};
 ghost use Rattle.machine.specs.Step.{env};
 
 // The register that a source names, or none.
@@ -143,24 +143,19 @@ fn register_words(
     }
 }
 
-// Component i of a register's words as a source takes it.
-fn component(words: &[u32; 4], s: Source, i: u8) -> u32
-    requires { ⌜ i < 4 ⌝ }
-    ensures { λ r. ⌜ r ≡ negated (s .modifier) (getD (now (words .entry)) (selected (s .swizzle) i) 0) ⌝ }
-{
-    let w = words[select(s.swizzle, i) as usize];
-    if s.modifier % 2 == 1 { neg32(w) } else { w }
-}
-
+// What a source takes of a register's words.
 fn components(words: &[u32; 4], s: Source) -> [u32; 4]
     ensures { λ r. ⌜ r ≡ taken (now (words .entry)) s ⌝ }
 {
-    [
-        component(words, s, 0),
-        component(words, s, 1),
-        component(words, s, 2),
-        component(words, s, 3),
-    ]
+    let x = words[select(s.swizzle, 0) as usize];
+    let y = words[select(s.swizzle, 1) as usize];
+    let z = words[select(s.swizzle, 2) as usize];
+    let w = words[select(s.swizzle, 3) as usize];
+    if s.modifier % 2 == 1 {
+        [neg32(x), neg32(y), neg32(z), neg32(w)]
+    } else {
+        [x, y, z, w]
+    }
 }
 
 // What a source reads, component by component.
@@ -204,7 +199,7 @@ fn read_at(
     read(s, inputs, constants, immediates, declared, registers)
 }
 
-// All sources of the instruction whose record these bytes begin with, before anything is written.
+// Reads all sources of the instruction whose record these bytes begin with, before anything is written.
 pub fn read_sources(
     bytes: &[u8],
     inputs: &[u32],
@@ -212,13 +207,14 @@ pub fn read_sources(
     immediates: &[u32],
     declared: &[u32],
     registers: &[u32],
-) -> [[u32; 4]; 4]
-    ensures { λ r. ⌜ r ≡ sourcesOf (env (now (inputs .entry)) (now (constants .entry)) (now (immediates .entry)) (now (declared .entry))) (now (registers .entry)) (now (bytes .entry)) ⌝ }
+    sources: &mut [[u32; 4]; 4],
+)
+    requires { ⌜ now sources ≡ noSources ⌝ }
+    ensures { λ _. ⌜ now (sources .exit) ≡ sourcesOf (env (now (inputs .entry)) (now (constants .entry)) (now (immediates .entry)) (now (declared .entry))) (now (registers .entry)) (now (bytes .entry)) ⌝ }
 {
     let kind = byte_at(bytes, 0);
     let count = sources_of(kind) as usize;
     let first = 1 + 4 * destinations_of(kind) as usize;
-    let mut sources = [[0u32; 4]; 4];
     let mut k: usize = 0;
     while k < count {
         let at = first + 5 * k;
@@ -233,7 +229,6 @@ pub fn read_sources(
         );
         k += 1;
     }
-    sources
 }
 
 // Whether a mask has component i.

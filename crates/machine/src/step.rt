@@ -43,7 +43,16 @@ pub fn step(
     let after = n as usize + 1;
     let bytes = bytes_from(file, place_of(rows, n) as usize);
     let kind = byte_at(bytes, 0);
-    let sources = read_sources(bytes, inputs, constants, immediates, declared, registers);
+    let mut sources = [[0u32; 4]; 4];
+    read_sources(
+        bytes,
+        inputs,
+        constants,
+        immediates,
+        declared,
+        registers,
+        &mut sources,
+    );
     let x = sources[0][0];
     match kind {
         0x10..=0x70 => {

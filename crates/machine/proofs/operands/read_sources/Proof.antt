@@ -8,11 +8,11 @@ use Rattle.machine.proofs.operands.read_sources.Statement.{statement}
 use Rattle.machine.proofs.operands.read_sources.Tie as tie
 
 abbrev Inv-loop : tie.InvT-loop
-Inv-loop bytes inputs constants immediates declared registers kind count first sources₀ k₀ sources k =
+Inv-loop bytes inputs constants immediates declared registers sources₀ kind count first k₀ sources k =
     (k ≤ count) × (count ≤ 4) × (sources ≡ soFar (env inputs constants immediates declared) registers bytes k)
 
 abbrev μ-loop : tie.MeasureT-loop
-μ-loop bytes inputs constants immediates declared registers kind count first sources₀ k₀ sources k = count - k
+μ-loop bytes inputs constants immediates declared registers sources₀ kind count first k₀ sources k = count - k
 
 pub read-sources-spec : {M : Type 1} → statement M
 read-sources-spec =
