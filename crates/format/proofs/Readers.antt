@@ -40,6 +40,13 @@ module _ (file : List ℕ) (p : ℕ) where
   unfolding word32
   word32-is a b c d ea eb ec ed = cc
 
+  pub destination-whole : (i : ℕ) → i ≡ getD file (p + 1) 0 + 256 * getD file (p + 2) 0
+      → record { file = getD file p 0; index = i; mask = getD file (p + 3) 0 } ≡ destinationAt file p
+  unfolding destinationAt word16
+  destination-whole i ei =
+      let e : p + 1 + 1 ≡ p + 2 = omega arith in
+      rw (e, ei)
+
   pub source-whole : (i : ℕ) → i ≡ getD file (p + 1) 0 + 256 * getD file (p + 2) 0
       → record { file = getD file p 0; index = i; swizzle = getD file (p + 3) 0; modifier = getD file (p + 4) 0 } ≡ sourceAt file p
   unfolding sourceAt word16

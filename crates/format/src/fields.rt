@@ -74,10 +74,27 @@ pub fn u32_at(bytes: &[u8], at: usize) -> u32
 pub fn destination_at(file: &[u8], at: usize) -> Destination
     ensures { λ r. ⌜ r ≡ destinationAt (now (file .entry)) at ⌝ }
 {
+    if at < file.len() {
+        if 4 <= file.len() - at {
+            return destination_in(file, at);
+        }
+    }
     Destination {
         file: byte_at(file, at),
         index: u16_after(file, at, 1),
         mask: byte_after(file, at, 3),
+    }
+}
+
+// The same where all four bytes are there, so that none is asked for by itself.
+fn destination_in(bytes: &[u8], at: usize) -> Destination
+    requires { ⌜ at + 4 ≤ length (now bytes) ⌝ }
+    ensures { λ r. ⌜ r ≡ destinationAt (now (bytes .entry)) at ⌝ }
+{
+    Destination {
+        file: bytes[at],
+        index: u16_of(bytes[at + 1], bytes[at + 2]),
+        mask: bytes[at + 3],
     }
 }
 
@@ -92,7 +109,7 @@ pub fn source_at(file: &[u8], at: usize) -> Source
     }
 }
 
-// The same where all five bytes are there, so that none is asked for by itself.
+// The same where all five bytes are there.
 pub fn source_in(bytes: &[u8], at: usize) -> Source
     requires { ⌜ at + 5 ≤ length (now bytes) ⌝ }
     ensures { λ r. ⌜ r ≡ sourceAt (now (bytes .entry)) at ⌝ }

@@ -1,9 +1,9 @@
 -- Sources: a register number with its address, the words of each file, and the four components.
 -- Assumes nothing.
-use Rattle.machine.specs.Effect.{nthSource, readAt, sourcePlace, sourcesOf}
+use Rattle.machine.specs.Effect.{firstSource, nthSource, readAt, sourcesOf}
 use Rattle.machine.specs.Operands.{Env, bitIn, components, declaredIn, fourAt, ifDeclared, negated, registerOf, registerWords, selected, sourceOf, taken, zeros}
 use Rattle.words.specs.Word.{neg, signed}
-use Rattle.format.specs.Kinds.{destinations, formOf, sources}
+use Rattle.format.specs.Kinds.{formOf, sources}
 use Rattle.format.proofs.Ranges.{every, in-range}
 use Rattle.format.specs.Fields.{sourceAt}
 use Prim.Native.Nat.{_%_, _*_, _+_, _-_, _/_, _<_, _^_, _≤_, suc, zero, ℕ}
@@ -163,6 +163,14 @@ module _ (e : Env) (r : List ℕ) (s : Source) (p : Place) (ep : p ≡ registerO
 pub four-at-most : (k n : ℕ) → k < 256 → n ≡ sources (formOf k) → n ≤ 4
 four-at-most k n h e = rw e (leb→le (sources (formOf k)) 4 (in-range (λ k. leb (sources (formOf k)) 4) 0 256 k tt (omega arith) h))
 
+pub first-after-destination : (k : ℕ) → k < 0x80 → 5 ≡ firstSource k
+unfolding firstSource
+first-after-destination k h = rw (lt-ltb k 0x80 h)
+
+pub first-after-kind : (k : ℕ) → 0x80 ≤ k → 1 ≡ firstSource k
+unfolding firstSource
+first-after-kind k h = rw (le-ltb k 0x80 h)
+
 module _ (e : Env) (r bytes : List ℕ) where
   pub source-there : (p : ℕ) (s : Source) (v : List ℕ) → p + 5 ≤ length bytes → s ≡ sourceAt bytes p → v ≡ sourceOf e r s → v ≡ readAt e r bytes p
   unfolding readAt
@@ -185,11 +193,11 @@ module _ (e : Env) (r bytes : List ℕ) where
   one-more (suc (suc (suc zero))) v h ev = rw ev
   one-more (suc (suc (suc (suc k)))) v h ev = absurd (omega arith)
 
-  module _ (kind count d : ℕ) (ek : kind ≡ getD bytes 0 0) (ec : count ≡ sources (formOf kind)) (ed : d ≡ destinations (formOf kind)) where
-    pub source-read : (k : ℕ) (l : List (List ℕ)) (v : List ℕ) → count ≤ 4 → k < count → l ≡ soFar k → v ≡ readAt e r bytes (1 + 4 * d + 5 * k) → set l k v ≡ soFar (k + 1)
-    unfolding nthSource sourcePlace
+  module _ (kind count first : ℕ) (ek : kind ≡ getD bytes 0 0) (ec : count ≡ sources (formOf kind)) (ef : first ≡ firstSource kind) where
+    pub source-read : (k : ℕ) (l : List (List ℕ)) (v : List ℕ) → count ≤ 4 → k < count → l ≡ soFar k → v ≡ readAt e r bytes (first + 5 * k) → set l k v ≡ soFar (k + 1)
+    unfolding nthSource
     source-read k l v four h el ev =
-        let there : v ≡ nthSource e r bytes k = rw (← ek, ← ec, ← ed, lt-ltb k count h) ev in
+        let there : v ≡ nthSource e r bytes k = rw (← ek, ← ec, ← ef, lt-ltb k count h) ev in
         ap (λ (q : List (List ℕ)). set q k v) el ∙ one-more k v (omega arith) there
 
     all-kept : (i : ℕ) → kept count i ≡ nthSource e r bytes i

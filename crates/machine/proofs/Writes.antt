@@ -53,37 +53,37 @@ written-is d first v l x y z w ef ex ey ez ew = cc
 
 -- ---- results on words: after the components below i, those from i on are as they were
 
-module _ (d : Destination) (v r : List ℕ) where
+module _ (first mask : ℕ) (v r : List ℕ) where
   abbrev pub writtenTo : ℕ → List ℕ
   writtenTo zero = r
-  writtenTo (suc i) = ifMasked (d .mask) i (placed d v) (writtenTo i)
+  writtenTo (suc i) = ifMasked mask i (placed first v) (writtenTo i)
 
-  pub word-more : (i : ℕ) (l q : List ℕ) → l ≡ writtenTo i → q ≡ ifMasked (d .mask) i (placed d v) l → q ≡ writtenTo (i + 1)
-  word-more i l q el eq = rw (add-one i) (eq ∙ ap (ifMasked (d .mask) i (placed d v)) el)
+  pub word-more : (i : ℕ) (l q : List ℕ) → l ≡ writtenTo i → q ≡ ifMasked mask i (placed first v) l → q ≡ writtenTo (i + 1)
+  word-more i l q el eq = rw (add-one i) (eq ∙ ap (ifMasked mask i (placed first v)) el)
 
-  one-longer : (t : Bool) (i : ℕ) → length (writtenTo i) ≡ length r → length (cond t (placed d v i (writtenTo i)) (writtenTo i)) ≡ length r
-  one-longer true i e = length-set (writtenTo i) (firstWord d + i) (getD v i 0) ∙ e
+  one-longer : (t : Bool) (i : ℕ) → length (writtenTo i) ≡ length r → length (cond t (placed first v i (writtenTo i)) (writtenTo i)) ≡ length r
+  one-longer true i e = length-set (writtenTo i) (first + i) (getD v i 0) ∙ e
   one-longer false i e = e
 
   as-long : (i : ℕ) → length (writtenTo i) ≡ length r
   unfolding ifMasked
   as-long zero = refl
-  as-long (suc i) = one-longer (eqb (bit (d .mask) i) 1) i (as-long i)
+  as-long (suc i) = one-longer (eqb (bit mask i) 1) i (as-long i)
 
   pub word-lengths : (i : ℕ) (l : List ℕ) → l ≡ writtenTo i → length l ≡ length r
   word-lengths i l el = ap length el ∙ as-long i
 
-  pub words-written : (i : ℕ) (l : List ℕ) → l ≡ writtenTo i → i ≤ 4 → 4 ≤ i → l ≡ written r d v
-  unfolding written masked
+  pub words-written : (i : ℕ) (l : List ℕ) → l ≡ writtenTo i → i ≤ 4 → 4 ≤ i → l ≡ masked mask (placed first v) r
+  unfolding masked
   words-written i l el a b =
       let all : i ≡ 4 = omega arith in
       el ∙ ap writtenTo all
 
-pub word-placed : (d : Destination) (v r q : List ℕ) (i first w : ℕ) (t : Bool) → t ≡ eqb (bit (d .mask) i) 1 → t ≡ true → first ≡ firstWord d → w ≡ getD v i 0
-    → q ≡ set r (first + i) w → q ≡ ifMasked (d .mask) i (placed d v) r
+pub word-placed : (first mask : ℕ) (v r q : List ℕ) (i w : ℕ) (t : Bool) → t ≡ eqb (bit mask i) 1 → t ≡ true → w ≡ getD v i 0
+    → q ≡ set r (first + i) w → q ≡ ifMasked mask i (placed first v) r
 unfolding ifMasked
-word-placed d v r q i first w t et h ef ew eq =
-    let here : q ≡ placed d v i r = cc in
+word-placed first mask v r q i w t et h ew eq =
+    let here : q ≡ placed first v i r = cc in
     rw (← et, h) here
 
 -- component i of a result on words

@@ -6,7 +6,7 @@ use mathlib.Core.List.{List, [], _∷_}
 use lib.Dec.{ltb, leb, eqb}
 use lib.ListN.{getD, drop, length}
 use Rattle.words.specs.Word.{cas}
-use Rattle.format.specs.Kinds.{within, formOf, destinations, sources}
+use Rattle.format.specs.Kinds.{within, formOf, sources}
 use Rattle.format.specs.Fields.{destinationAt, sourceAt}
 use Rattle.format.specs.declared.fields.Destination.{Destination}
 use Rattle.machine.specs.Operands.{Env, State, components, zeros, sourceOf, written}
@@ -22,9 +22,9 @@ state r m = record { registers = r; memory = m }
 abbrev pub kindByte : List ℕ → ℕ
 kindByte bytes = getD bytes 0 0
 
--- Source i stands after the kind, the destination's four bytes if there is one, and the sources before it, five bytes each.
-unfoldable pub sourcePlace : ℕ → ℕ → ℕ
-sourcePlace k i = 1 + 4 * destinations (formOf k) + 5 * i
+-- Sources stand after the kind, or after the destination, which instructions below kind 80 have; five bytes each.
+unfoldable pub firstSource : ℕ → ℕ
+firstSource k = cond (ltb k 0x80) 5 1
 
 -- A source whose bytes are not all there, or that the kind does not have, reads 0.
 unfoldable pub readAt : Env → List ℕ → List ℕ → ℕ → List ℕ
@@ -32,7 +32,7 @@ readAt e r bytes p = cond (leb (p + 5) (length bytes)) (sourceOf e r (sourceAt b
 
 unfoldable pub nthSource : Env → List ℕ → List ℕ → ℕ → List ℕ
 nthSource e r bytes i =
-    cond (ltb i (sources (formOf (kindByte bytes)))) (readAt e r bytes (sourcePlace (kindByte bytes) i)) zeros
+    cond (ltb i (sources (formOf (kindByte bytes)))) (readAt e r bytes (firstSource (kindByte bytes) + 5 * i)) zeros
 
 abbrev pub noSources : List (List ℕ)
 noSources = zeros ∷ zeros ∷ zeros ∷ zeros ∷ []

@@ -106,9 +106,9 @@ masked mask put l = ifMasked mask 3 put (ifMasked mask 2 put (ifMasked mask 1 pu
 unfoldable pub firstWord : Destination → ℕ
 firstWord d = cond (eqb (d .file) 3) (4 * d .index) (cond (eqb (d .file) 4) (128 + 4 * d .index) 1152)
 
--- The registers after a result of four words went to a destination: word i to its place there.
-abbrev pub placed : Destination → List ℕ → ℕ → List ℕ → List ℕ
-placed d v i r = set r (firstWord d + i) (getD v i 0)
+-- The registers after a result of four words went to the destination whose words begin at `first`: word i to its place there.
+abbrev pub placed : ℕ → List ℕ → ℕ → List ℕ → List ℕ
+placed first v i r = set r (first + i) (getD v i 0)
 
 unfoldable pub written : List ℕ → Destination → List ℕ → List ℕ
-written r d v = masked (d .mask) (placed d v) r
+written r d v = masked (d .mask) (placed (firstWord d) v) r

@@ -1,8 +1,6 @@
 // Results on words, component by component. Each family is a match over its kinds, in document 01's order.
-use crate::operands::first_word;
 use crate::operands::is_masked;
 use crate::operands::set_word;
-use format::fields::Destination;
 use words::bits::and32;
 use words::bits::brev32;
 use words::bits::imsb32;
@@ -39,7 +37,7 @@ use words::sums::umad32;
 use words::sums::umulhi32;
 ghost use mathlib.Core.Path.{_≡_};
 ghost use Prim.Native.Nat.{_<_, _≤_};
-ghost use Rattle.machine.specs.Operands.{ifMasked, placed, written};
+ghost use Rattle.machine.specs.Operands.{ifMasked, masked, placed};
 ghost use Rattle.machine.specs.Arithmetic.{atomic, resultWord, resultWords};
 
 // A result on words, from one component of each source: the table of kinds, in its order.
@@ -92,11 +90,11 @@ fn word(kind: u8, a: u32, b: u32, c: u32, d: u32) -> u32
 }
 
 // Writes component i of a result on words; one that the mask does not have is not asked for.
-fn put_word(registers: &mut [u32], d: Destination, kind: u8, sources: &[[u32; 4]; 4], i: u8)
+fn put_word(registers: &mut [u32], first: u32, mask: u8, kind: u8, sources: &[[u32; 4]; 4], i: u8)
     requires { ⌜ i < 4 ⌝ }
-    ensures { λ _. ⌜ now (registers .exit) ≡ ifMasked (d .mask) i (placed d (resultWords kind (now (sources .entry)))) (now (registers .entry)) ⌝ }
+    ensures { λ _. ⌜ now (registers .exit) ≡ ifMasked mask i (placed first (resultWords kind (now (sources .entry)))) (now (registers .entry)) ⌝ }
 {
-    if is_masked(d.mask, i) {
+    if is_masked(mask, i) {
         let k = i as usize;
         let w = word(
             kind,
@@ -105,16 +103,16 @@ fn put_word(registers: &mut [u32], d: Destination, kind: u8, sources: &[[u32; 4]
             sources[2][k],
             sources[3][k],
         );
-        set_word(registers, first_word(d) as usize + k, w);
+        set_word(registers, first as usize + k, w);
     }
 }
 
-pub fn write_words(registers: &mut [u32], d: Destination, kind: u8, sources: &[[u32; 4]; 4])
-    ensures { λ _. ⌜ now (registers .exit) ≡ written (now (registers .entry)) d (resultWords kind (now (sources .entry))) ⌝ }
+pub fn write_words(registers: &mut [u32], first: u32, mask: u8, kind: u8, sources: &[[u32; 4]; 4])
+    ensures { λ _. ⌜ now (registers .exit) ≡ masked mask (placed first (resultWords kind (now (sources .entry)))) (now (registers .entry)) ⌝ }
 {
     let mut i: u8 = 0;
     while i < 4 {
-        put_word(registers, d, kind, sources, i);
+        put_word(registers, first, mask, kind, sources, i);
         i += 1;
     }
 }

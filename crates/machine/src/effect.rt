@@ -5,6 +5,7 @@ use crate::memory::load;
 use crate::memory::load_from;
 use crate::memory::store;
 use crate::memory::store_from;
+use crate::operands::first_word;
 use crate::operands::write;
 use crate::wide::wide_unary_words;
 use crate::wide::wide_words;
@@ -49,15 +50,16 @@ pub fn effect(
 )
     ensures { λ r. ⌜ state (now (registers .exit)) (now (memory .exit)) ≡ effectOf (familyOf kind) kind d (now (sources .entry)) (state (now (registers .entry)) (now (memory .entry))) ⌝ }
 {
+    let first = first_word(d);
     match kind {
-        0x10..=0x1a => write_words(registers, d, kind, sources),
+        0x10..=0x1a => write_words(registers, first, d.mask, kind, sources),
         0x1b..=0x1d => write(registers, d, wide_unary_words(kind, sources[0])),
         0x1e => write(registers, d, load_from(memory, sources[0][0])),
-        0x20..=0x37 => write_words(registers, d, kind, sources),
+        0x20..=0x37 => write_words(registers, first, d.mask, kind, sources),
         0x40..=0x52 => write(registers, d, wide_words(kind, sources[0], sources[1])),
         0x58 => store_from(memory, sources[0][0], d.mask, sources[1]),
         0x56..=0x5f => atomic(kind, d, sources[0][0], sources[1][0], registers, memory),
-        0x60..=0x63 => write_words(registers, d, kind, sources),
+        0x60..=0x63 => write_words(registers, first, d.mask, kind, sources),
         0x64 => {
             atomic_cas(
                 d,
@@ -68,7 +70,7 @@ pub fn effect(
                 memory,
             );
         }
-        0x70 => write_words(registers, d, kind, sources),
+        0x70 => write_words(registers, first, d.mask, kind, sources),
         _ => {}
     }
 }

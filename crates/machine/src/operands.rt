@@ -3,7 +3,6 @@ use format::fields::Destination;
 use format::fields::Source;
 use format::fields::byte_at;
 use format::fields::source_in;
-use format::kinds::destinations_of;
 use format::kinds::sources_of;
 use words::sums::neg32;
 ghost use mathlib.Core.Path.{_≡_};
@@ -14,7 +13,7 @@ ghost use lib.ListN.{getD, set};
 ghost use lib.IntN.{pos, _+ℤ_};
 ghost use Rattle.words.specs.Word.{bit, signed};
 ghost use Rattle.machine.specs.Operands.{bitIn, declaredIn, ifDeclared, registerOf, selected, fourAt, registerWords, taken, sourceOf, ifMasked, firstWord, written};
-ghost use Rattle.machine.specs.Effect.{readAt, noSources, sourcesOf};
+ghost use Rattle.machine.specs.Effect.{firstSource, readAt, noSources, sourcesOf};
 ghost use Rattle.machine.specs.Step.{env};
 
 // The register that a source names, or none.
@@ -199,6 +198,13 @@ fn read_at(
     read(s, inputs, constants, immediates, declared, registers)
 }
 
+// Where the first source of a record stands.
+fn first_source(kind: u8) -> u8
+    ensures { λ r. ⌜ r ≡ firstSource kind ⌝ }
+{
+    if kind < 0x80 { 5 } else { 1 }
+}
+
 // Reads all sources of the instruction whose record these bytes begin with, before anything is written.
 pub fn read_sources(
     bytes: &[u8],
@@ -214,7 +220,7 @@ pub fn read_sources(
 {
     let kind = byte_at(bytes, 0);
     let count = sources_of(kind) as usize;
-    let first = 1 + 4 * destinations_of(kind) as usize;
+    let first = first_source(kind) as usize;
     let mut k: usize = 0;
     while k < count {
         let at = first + 5 * k;

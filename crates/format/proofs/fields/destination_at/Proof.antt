@@ -1,4 +1,4 @@
--- A destination, field by field.
+-- A destination whose bytes are all there, or field by field.
 -- Assumes nothing.
 use borrow.Author.Needs.{needs}
 use Rattle.format.proofs.Readers.{destination-is}
@@ -6,4 +6,8 @@ use Rattle.format.proofs.fields.destination_at.Statement.{statement}
 use Rattle.format.proofs.fields.destination_at.Tie as tie
 
 pub destination-at-spec : {M : Type 1} → statement M
-destination-at-spec = tie.close (tie.spec (search needs) (search needs) (search needs) (λ c. search (needs, destination-is)))
+destination-at-spec =
+    tie.close
+    (tie.spec
+    (search needs) (search needs) (λ c. search needs) (search needs) (search needs) (search needs)
+    (λ c. search (needs, destination-is)))

@@ -8,10 +8,10 @@ use Rattle.machine.proofs.arithmetic.write_words.Statement.{statement}
 use Rattle.machine.proofs.arithmetic.write_words.Tie as tie
 
 abbrev Inv-loop : tie.InvT-loop
-Inv-loop registers₀ d kind sources i₀ registers i = (i ≤ 4) × (registers ≡ writtenTo d (resultWords kind sources) registers₀ i)
+Inv-loop registers₀ first mask kind sources i₀ registers i = (i ≤ 4) × (registers ≡ writtenTo first mask (resultWords kind sources) registers₀ i)
 
 abbrev μ-loop : tie.MeasureT-loop
-μ-loop registers₀ d kind sources i₀ registers i = 4 - i
+μ-loop registers₀ first mask kind sources i₀ registers i = 4 - i
 
 pub write-words-spec : {M : Type 1} → statement M
 write-words-spec =

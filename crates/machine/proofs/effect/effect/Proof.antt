@@ -1,5 +1,5 @@
 -- Each arm is the effect of its family: of one kind, or of the kinds of a range.
-use Rattle.machine.proofs.Effects.{effect-at, effect-in, memory-is, result-is}
+use Rattle.machine.proofs.Effects.{effect-at, effect-in, memory-is, result-is, words-are}
 use Rattle.machine.specs.Effect.{ATOMCAS, ATOMIC, LOAD, NONE, STORE, WIDE, WIDE-UNARY, WORDS, familyOf}
 use mathlib.Core.Path.{refl}
 use borrow.Author.Needs.{needs}
@@ -15,22 +15,22 @@ effect-spec =
     (search needs) (search needs) (search needs) (search needs) (search needs) (search needs) (search needs)
     (search needs) (search needs) (search needs) (search needs) (search needs) (search needs) (search needs)
     (search needs) (search needs) (search needs) (search needs) (search needs) (search needs) (search needs)
-    (search needs) (search needs) (search needs) (search needs) (search needs)
+    (search needs) (search needs) (search needs) (search needs) (search needs) (search needs)
     (λ c. search (needs, effect-at LOAD 0x1e refl, result-is))
     (search needs)
     (λ c. search (needs, effect-at STORE 0x58 refl, memory-is))
     (search needs) (search needs)
     (λ c. search (needs, effect-at ATOMCAS 0x64 refl))
     (search needs)
-    (λ c. search (needs, effect-at WORDS 0x70 refl, result-is))
+    (λ c. search (needs, effect-at WORDS 0x70 refl, words-are))
     (λ c. search (needs, effect-in NONE 0x0 0x10 tt))
     (search needs)
-    (λ c. search (needs, effect-in WORDS 0x10 0x1b tt, result-is))
+    (λ c. search (needs, effect-in WORDS 0x10 0x1b tt, words-are))
     (search needs)
     (λ c. search (needs, effect-in WIDE-UNARY 0x1b 0x1e tt, result-is))
     (λ c. search (needs, effect-in NONE 0x1e 0x20 tt))
     (search needs)
-    (λ c. search (needs, effect-in WORDS 0x20 0x38 tt, result-is))
+    (λ c. search (needs, effect-in WORDS 0x20 0x38 tt, words-are))
     (λ c. search (needs, effect-in NONE 0x38 0x40 tt))
     (search needs)
     (λ c. search (needs, effect-in WIDE 0x40 0x53 tt, result-is))
@@ -38,5 +38,5 @@ effect-spec =
     (search needs) (search needs)
     (λ c. search (needs, effect-in ATOMIC 0x56 0x60 tt))
     (search needs)
-    (λ c. search (needs, effect-in WORDS 0x60 0x64 tt, result-is))
+    (λ c. search (needs, effect-in WORDS 0x60 0x64 tt, words-are))
     (λ c. search (needs, effect-in NONE 0x64 0x100 tt)))

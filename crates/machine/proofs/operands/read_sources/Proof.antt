@@ -18,7 +18,7 @@ pub read-sources-spec : {M : Type 1} → statement M
 read-sources-spec =
     tie.close
     (tie.spec Inv-loop μ-loop
-    (search needs) (search needs) (search needs) (search needs) (search needs) (search needs) (search needs)
+    (search needs) (search needs) (search needs) (search needs) (search needs)
     (λ c. search (needs, four-at-most, refl))
     (search needs) (search needs) (search needs) (search needs) (search needs) (search needs) (search needs)
     (λ c. search (needs, source-read))

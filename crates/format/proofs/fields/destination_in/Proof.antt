@@ -1,0 +1,13 @@
+-- Four bytes, all of which are there.
+-- Assumes nothing.
+use borrow.Author.Needs.{needs}
+use Rattle.format.proofs.Readers.{destination-whole}
+use Rattle.format.proofs.fields.destination_in.Statement.{statement}
+use Rattle.format.proofs.fields.destination_in.Tie as tie
+
+pub destination-in-spec : {M : Type 1} → statement M
+destination-in-spec =
+    tie.close
+    (tie.spec
+    (search needs) (search needs) (search needs) (search needs) (search needs) (λ c κs. search needs) (search needs) (search needs)
+    (λ c. search (needs, destination-whole)))
