@@ -1,6 +1,7 @@
 //! A plain bytecode interpreter, the measure of the benchmark: it decodes the file's bytes at each step, finds them
 //! and its way by the prepared table, and allocates nothing while it runs. Checker and table are the second
-//! interpreter's; the benchmark is about steps.
+//! interpreter's; the benchmark is about steps. It has no hint to the compiler: what is inlined is the compiler's choice, as it
+//! is for the library.
 
 use crate::check::{check, Program};
 use crate::format::*;
@@ -69,23 +70,19 @@ struct Interpreter<'a> {
     memory: &'a mut [u32],
 }
 
-#[inline]
 fn index(operand: &[u8]) -> usize {
     u16::from_le_bytes([operand[1], operand[2]]) as usize
 }
 
-#[inline]
 fn register_at(words: &[u32], at: usize) -> Register {
     words[at..at + 4].try_into().expect("four words")
 }
 
-#[inline]
 fn pairs(register: Register) -> [u64; 2] {
     [register[0] as u64 | (register[1] as u64) << 32, register[2] as u64 | (register[3] as u64) << 32]
 }
 
 /// The number of the word at a byte address and 4i; that of a misaligned one is outside.
-#[inline]
 fn word(address: u32, i: usize) -> usize {
     if address.is_multiple_of(4) {
         address as usize / 4 + i
@@ -95,7 +92,6 @@ fn word(address: u32, i: usize) -> usize {
 }
 
 /// Four words by component, written out: the arrays' own `map` is not always unrolled.
-#[inline(always)]
 fn four(f: impl Fn(usize) -> u32) -> Register {
     [f(0), f(1), f(2), f(3)]
 }
@@ -139,7 +135,6 @@ impl Interpreter<'_> {
         after
     }
 
-    #[inline(always)]
     fn source(&self, operand: &[u8]) -> Register {
         let (file, swizzle, modifier) = (operand[0], operand[3] as usize, operand[4]);
         let mut i = index(operand);
@@ -165,7 +160,6 @@ impl Interpreter<'_> {
         }
     }
 
-    #[inline(always)]
     fn write(&mut self, record: &[u8], result: Register) {
         let start = match record[1] {
             OUT => 4 * index(&record[1..]),
@@ -180,26 +174,22 @@ impl Interpreter<'_> {
         }
     }
 
-    #[inline]
     fn one(&mut self, record: &[u8], f: impl Fn(u32) -> u32) {
         let a = self.source(&record[5..10]);
         self.write(record, four(|i| f(a[i])));
     }
 
-    #[inline]
     fn two(&mut self, record: &[u8], f: impl Fn(u32, u32) -> u32) {
         let (a, b) = (self.source(&record[5..10]), self.source(&record[10..15]));
         self.write(record, four(|i| f(a[i], b[i])));
     }
 
-    #[inline]
     fn three(&mut self, record: &[u8], f: impl Fn(u32, u32, u32) -> u32) {
         let (a, b) = (self.source(&record[5..10]), self.source(&record[10..15]));
         let c = self.source(&record[15..20]);
         self.write(record, four(|i| f(a[i], b[i], c[i])));
     }
 
-    #[inline]
     fn wide(&mut self, record: &[u8], f: impl Fn(u64, u64) -> u64) {
         let a = pairs(self.source(&record[5..10]));
         let b = if record[0] < U64ADD { [0; 2] } else { pairs(self.source(&record[10..15])) };
