@@ -1,7 +1,7 @@
 -- Effects: what is written is the result of the kind's family.
 -- Assumes nothing.
 use Rattle.machine.specs.Effect.{Family, WORDS, WIDE-UNARY, LOAD, WIDE, STORE, ATOMIC, ATOMCAS, NONE, effectOf, exchange, familyOf, result, state}
-use Rattle.machine.specs.Operands.{State, components, firstWord, masked, placed, written}
+use Rattle.machine.specs.Operands.{State, components, firstWord, written, writtenAt}
 use Rattle.machine.specs.Memory.{loaded, stored}
 use Rattle.format.proofs.Ranges.{every, in-range}
 use Prim.Native.Nat.{_-_, _<_, _≤_, ℕ}
@@ -15,11 +15,8 @@ use Rattle.format.specs.declared.fields.Destination.{Destination}
 pub result-is : (d : Destination) (r m l v u : List ℕ) → v ≡ u → l ≡ written r d v → state l m ≡ result d (state r m) u
 result-is d r m l v u e h = cc
 
-pub words-are : (d : Destination) (r m l v : List ℕ) (first : ℕ) → first ≡ firstWord d → l ≡ masked (d .mask) (placed first v) r → state l m ≡ result d (state r m) v
-unfolding written
-words-are d r m l v first e h =
-    let at : l ≡ masked (d .mask) (placed (firstWord d) v) r = h ∙ ap (λ f. masked (d .mask) (placed f v) r) e in
-    cc
+pub words-are : (d : Destination) (r m l v : List ℕ) (first : ℕ) → first ≡ firstWord d → l ≡ writtenAt r first (d .mask) v → state l m ≡ result d (state r m) v
+words-are d r m l v first e h = cc
 
 pub memory-is : (r m n : List ℕ) → m ≡ n → state r m ≡ state r n
 memory-is r m n e = cc

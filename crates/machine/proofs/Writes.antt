@@ -1,6 +1,6 @@
 -- Results written to the components of a mask, in registers and in memory.
 -- Assumes nothing.
-use Rattle.machine.specs.Operands.{components, firstWord, ifMasked, masked, placed, written}
+use Rattle.machine.specs.Operands.{components, firstWord, ifMasked, masked, placed, written, writtenAt}
 use Rattle.machine.specs.Memory.{loaded, loadedFrom, stored, storedFrom}
 use Rattle.machine.specs.Arithmetic.{sourceWord, resultWord, resultWords}
 use Rattle.words.specs.Word.{bit}
@@ -11,7 +11,7 @@ use mathlib.Core.List.{List, [], _∷_}
 use native.Mathlib.Omega.{arith}
 use native.Mathlib.Numerals.{add-one}
 use native.Mathlib.Nat.{add-zero}
-use borrow.Author.Tests.{ne-eqb}
+use borrow.Author.Tests.{le-leb, lt-leb, ne-eqb}
 use lib.Dec.{eqb}
 use lib.ListN.{getD, length, length-set, set}
 use lib.Seq.{set-out}
@@ -42,14 +42,28 @@ module _ (d : Destination) where
   unfolding firstWord
   first-addr a b = simp (ne-eqb (d .file) 3 a, ne-eqb (d .file) 4 b)
 
-pub written-is : (d : Destination) (first : ℕ) (v l x y z w : List ℕ) → first ≡ firstWord d
+module _ (first mask : ℕ) (v r : List ℕ) where
+  pub not-written : length r < first + 4 → r ≡ writtenAt r first mask v
+  unfolding writtenAt
+  not-written h = rw (lt-leb (first + 4) (length r) h)
+
+  pub all-written : (l : List ℕ) → first + 4 ≤ length r → l ≡ masked mask (placed first v) r → l ≡ writtenAt r first mask v
+  unfolding writtenAt
+  all-written l h e = rw (le-leb (first + 4) (length r) h) e
+
+pub written-is : (d : Destination) (first : ℕ) (v l x y z w : List ℕ) → first ≡ firstWord d → first + 4 ≤ length l
     → x ≡ ifMasked (d .mask) 0 (λ i l. set l (first + i) (getD v 0 0)) l
     → y ≡ ifMasked (d .mask) 1 (λ i l. set l (first + i) (getD v 1 0)) x
     → z ≡ ifMasked (d .mask) 2 (λ i l. set l (first + i) (getD v 2 0)) y
     → w ≡ ifMasked (d .mask) 3 (λ i l. set l (first + i) (getD v 3 0)) z
     → w ≡ written l d v
-unfolding written masked ifMasked
-written-is d first v l x y z w ef ex ey ez ew = cc
+unfolding masked ifMasked
+written-is d first v l x y z w ef h ex ey ez ew =
+    let all : w ≡ masked (d .mask) (placed first v) l = cc in
+    all-written first (d .mask) v l w h all ∙ ap (λ f. writtenAt l f (d .mask) v) ef
+
+pub left-is : (d : Destination) (first : ℕ) (v l : List ℕ) → first ≡ firstWord d → length l < first + 4 → l ≡ written l d v
+left-is d first v l ef h = not-written first (d .mask) v l h ∙ ap (λ f. writtenAt l f (d .mask) v) ef
 
 -- ---- results on words: after the components below i, those from i on are as they were
 
@@ -73,18 +87,19 @@ module _ (first mask : ℕ) (v r : List ℕ) where
   pub word-lengths : (i : ℕ) (l : List ℕ) → l ≡ writtenTo i → length l ≡ length r
   word-lengths i l el = ap length el ∙ as-long i
 
-  pub words-written : (i : ℕ) (l : List ℕ) → l ≡ writtenTo i → i ≤ 4 → 4 ≤ i → l ≡ masked mask (placed first v) r
-  unfolding masked
-  words-written i l el a b =
-      let all : i ≡ 4 = omega arith in
-      el ∙ ap writtenTo all
+  pub room : (i : ℕ) (l : List ℕ) → l ≡ writtenTo i → first + 4 ≤ length r → first + 4 ≤ length l
+  room i l el h = omega (arith, word-lengths i l el)
 
-pub word-placed : (first mask : ℕ) (v r q : List ℕ) (i w : ℕ) (t : Bool) → t ≡ eqb (bit mask i) 1 → t ≡ true → w ≡ getD v i 0
-    → q ≡ set r (first + i) w → q ≡ ifMasked mask i (placed first v) r
+  pub words-written : (i : ℕ) (l : List ℕ) → l ≡ writtenTo i → i ≤ 4 → 4 ≤ i → first + 4 ≤ length r → l ≡ writtenAt r first mask v
+  unfolding masked
+  words-written i l el a b h =
+      let all : i ≡ 4 = omega arith in
+      all-written first mask v r l h (el ∙ ap writtenTo all)
+
+pub word-placed : (first mask : ℕ) (v r : List ℕ) (i w : ℕ) (t : Bool) → t ≡ eqb (bit mask i) 1 → t ≡ true → w ≡ getD v i 0
+    → set r (first + i) w ≡ ifMasked mask i (placed first v) r
 unfolding ifMasked
-word-placed first mask v r q i w t et h ew eq =
-    let here : q ≡ placed first v i r = cc in
-    rw (← et, h) here
+word-placed first mask v r i w t et h ew = rw (← et, h) (ap (set r (first + i)) ew)
 
 -- component i of a result on words
 pub word-is : (k : ℕ) (o : List (List ℕ)) (i w : ℕ) → i < 4 → w ≡ resultWord k (sourceWord o 0 i) (sourceWord o 1 i) (sourceWord o 2 i) (sourceWord o 3 i) → w ≡ getD (resultWords k o) i 0

@@ -106,9 +106,13 @@ masked mask put l = ifMasked mask 3 put (ifMasked mask 2 put (ifMasked mask 1 pu
 unfoldable pub firstWord : Destination → ℕ
 firstWord d = cond (eqb (d .file) 3) (4 * d .index) (cond (eqb (d .file) 4) (128 + 4 * d .index) 1152)
 
--- The registers after a result of four words went to the destination whose words begin at `first`: word i to its place there.
+-- Word i of a result goes to its place in the register whose words begin at `first`.
 abbrev pub placed : ℕ → List ℕ → ℕ → List ℕ → List ℕ
 placed first v i r = set r (first + i) (getD v i 0)
 
-unfoldable pub written : List ℕ → Destination → List ℕ → List ℕ
-written r d v = masked (d .mask) (placed (firstWord d) v) r
+-- The registers after a result of four words; a register whose words are not all there, which no run writes, is left.
+unfoldable pub writtenAt : List ℕ → ℕ → ℕ → List ℕ → List ℕ
+writtenAt r first mask v = cond (leb (first + 4) (length r)) (masked mask (placed first v) r) r
+
+abbrev pub written : List ℕ → Destination → List ℕ → List ℕ
+written r d v = writtenAt r (firstWord d) (d .mask) v

@@ -270,6 +270,9 @@ pub fn write(registers: &mut [u32], d: Destination, v: [u32; 4])
     ensures { λ r. ⌜ now (registers .exit) ≡ written (now (registers .entry)) d v ⌝ }
 {
     let first = first_word(d);
+    if registers.len() < first as usize + 4 {
+        return;
+    }
     put(registers, d.mask, 0, first, v[0]);
     put(registers, d.mask, 1, first, v[1]);
     put(registers, d.mask, 2, first, v[2]);

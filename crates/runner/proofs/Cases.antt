@@ -16,7 +16,7 @@ use Rattle.blocks.specs.Table.{firstLabel, rows, table, wordsOf}
 use Rattle.checker.specs.Check.{walk, checkOf}
 use Rattle.checker.specs.Findings.{withDeclaration, declarationFinding, withImmediate, immediateFinding, sourceFound, operandsFound, withInstruction, instructionFinding, recordFinding}
 use Rattle.checker.specs.Rules.{destinationRule, sourceRule, allOperands, declarationRule}
-use Rattle.machine.specs.Operands.{components, fourAt, registerWords, registerOf, taken, sourceOf, ifMasked, masked, firstWord, written}
+use Rattle.machine.specs.Operands.{components, fourAt, registerWords, registerOf, taken, sourceOf, ifMasked, masked, firstWord, writtenAt}
 use Rattle.machine.specs.Arithmetic.{unary, binary, ternary, resultWord, resultWords, wide, halves, countOr, wideOf}
 use Rattle.machine.specs.Effect.{firstSource, readAt, nthSource, sourcesOf, familyOf, recordEffect}
 use Rattle.runner.specs.Answers.{Answer, refusal, ready, end, halt, Result}
@@ -94,5 +94,5 @@ cases : instructions ++ runs
     ∷ (1 ∷ 0 ∷ 0 ∷ 0 ∷ 0 ∷ [])
     ∷ (0 ∷ 5 ∷ 0 ∷ 0 ∷ [])
     ∷ []
-unfolding instructions file12 file13 ran numbers shown runs lengthOf word16 word32 destinationAt sourceAt declarationAt caseWord sizeAt next placeFrom opOf listFrom tableWords read past rounds reading firstLabel rows table wordsOf walk checkOf withDeclaration declarationFinding withImmediate immediateFinding sourceFound operandsFound withInstruction instructionFinding recordFinding destinationRule sourceRule allOperands declarationRule components fourAt registerWords registerOf taken sourceOf ifMasked masked firstWord written unary resultWord resultWords firstSource readAt nthSource sourcesOf familyOf recordEffect lentRefusal cleared carriedOut runAccepted runOf binary ternary wide halves countOr wideOf signed word lsb umsb imsb least greatest outside ubfe ibfe bfi
+unfolding instructions file12 file13 ran numbers shown runs lengthOf word16 word32 destinationAt sourceAt declarationAt caseWord sizeAt next placeFrom opOf listFrom tableWords read past rounds reading firstLabel rows table wordsOf walk checkOf withDeclaration declarationFinding withImmediate immediateFinding sourceFound operandsFound withInstruction instructionFinding recordFinding destinationRule sourceRule allOperands declarationRule components fourAt registerWords registerOf taken sourceOf ifMasked masked firstWord writtenAt unary resultWord resultWords firstSource readAt nthSource sourcesOf familyOf recordEffect lentRefusal cleared carriedOut runAccepted runOf binary ternary wide halves countOr wideOf signed word lsb umsb imsb least greatest outside ubfe ibfe bfi
 cases = refl

@@ -10,6 +10,6 @@ put-word-spec =
     (tie.spec
     (search needs) (search needs) (search needs) (search needs) (search needs) (search needs) (search needs)
     (search needs) (search needs) (search needs) (search needs) (search needs) (search needs) (search needs)
-    (search needs) (search needs) (search needs)
+    (search needs) (search needs) (search needs) (search needs)
     (λ c. search (needs, word-placed, word-is))
     (λ c. search (needs, masked-off)))

@@ -1,5 +1,5 @@
 -- One component after the other.
-use Rattle.machine.proofs.Writes.{word-lengths, word-more, words-written, writtenTo}
+use Rattle.machine.proofs.Writes.{not-written, room, word-lengths, word-more, words-written, writtenTo}
 use mathlib.Core.Path.{_≡_, refl}
 use Prim.Native.Nat.{_-_, _≤_}
 use Rattle.machine.specs.Arithmetic.{resultWords}
@@ -17,8 +17,11 @@ pub write-words-spec : {M : Type 1} → statement M
 write-words-spec =
     tie.close
     (tie.spec Inv-loop μ-loop
+    (search needs)
+    (λ c. search (needs, not-written))
     (λ c. search (needs, refl))
-    (search needs) (search needs) (search needs)
+    (λ c. search (needs, room))
+    (search needs) (search needs)
     (λ c. search (needs, word-more))
     (λ c. search (needs, word-lengths))
     (λ c. search (needs, words-written)))

@@ -1,5 +1,5 @@
 -- A result goes to its components one after the other.
-use Rattle.machine.proofs.Writes.{written-is}
+use Rattle.machine.proofs.Writes.{left-is, written-is}
 use borrow.Author.Needs.{needs}
 use Rattle.machine.proofs.operands.write.Statement.{statement}
 use Rattle.machine.proofs.operands.write.Tie as tie
@@ -8,6 +8,8 @@ pub write-spec : {M : Type 1} → statement M
 write-spec =
     tie.close
     (tie.spec
-    (search needs) (search needs) (search needs) (search needs) (search needs) (search needs) (search needs)
     (search needs) (search needs) (search needs)
+    (λ c. search (needs, left-is))
+    (search needs) (search needs) (search needs) (search needs) (search needs) (search needs) (search needs)
+    (search needs) (search needs)
     (λ c. search (needs, written-is)))
