@@ -4,6 +4,8 @@ pub mod Files
 pub mod Sources
 pub mod Stack
 pub mod Opening
+pub mod Trees
+pub mod Searched
 pub mod Records
 pub mod Keeping
 pub mod Taking

@@ -129,10 +129,10 @@ relabel-default : (x : ℕ) (vs : List ℕ) (σ : List Open) (k : ℕ) → k < 5
 relabel-default x vs σ =
     code-cases (λ (k : ℕ). within 3 4 k ≡ true → openOf 4 vs ∷ σ ≡ openAfter DEFAULT x (openOf k vs ∷ σ)) (λ e. never e) (λ e. never e) (λ e. never e) (λ e. refl) (λ e. refl)
 
-pub labelled-blocks : (codes starts values : List ℕ) (n end x : ℕ) → end < length values → within 3 4 (topCode codes n) ≡ true → Stacked codes starts n end
+pub labelled-blocks : (codes starts values : List ℕ) (n end x : ℕ) → length values ≡ 1024 → end < 1024 → within 3 4 (topCode codes n) ≡ true → Stacked codes starts n end
     → blocksIn codes starts (set values end x) n (end + 1) ≡ openAfter CASE x (blocksIn codes starts values n end)
-labelled-blocks codes starts values zero end x h t s = refl
-labelled-blocks codes starts values (suc n) end x h t s =
+labelled-blocks codes starts values zero end x v h t s = refl
+labelled-blocks codes starts values (suc n) end x v h t s =
     rw (newest-more values x (getD starts n 0) end (s .1) (omega arith), blocks-below codes starts values end x n (getD starts n 0) (s .1) (s .2))
     (relabel-case x (newestFirst values (getD starts n 0) (end - getD starts n 0)) (blocksIn codes starts values n (getD starts n 0)) (getD codes n 0) (s .0) t)
 

@@ -7,7 +7,7 @@ use Prim.Native.Nat.{ℕ, _+_, _*_, _<_, _≤_}
 use native.Mathlib.Omega.{arith}
 use lib.Dec.{eqb, leb}
 use lib.ListN.{length, getD, take}
-use borrow.Author.Tests.{eq-eqb, ne-eqb, le-leb, lt-leb, leb-false, not-false}
+use borrow.Author.Tests.{eq-eqb, ne-eqb, le-leb, lt-leb, leb-false, eqb-false, not-false}
 use Rattle.format.specs.Records.{sizeAt}
 use Rattle.format.specs.Fields.{caseWord}
 use Rattle.format.proofs.Walk.{size-fits}
@@ -17,7 +17,7 @@ use Rattle.checker.specs.Rules.{operandRules}
 use Rattle.checker.specs.Sets.{isIn}
 use Rattle.checker.specs.Findings.{nothing, Finding, due, operandsFound, withInstruction, nested, instructionFinding}
 use Rattle.checker.specs.Check.{programSeen}
-use Rattle.checker.specs.Held.{Stacked, blocksOf, rulingOf, seen, findingOf, operandRefusal, instructed, takenBy, takenOf, Padded, SoundBlocks, Sound}
+use Rattle.checker.specs.Held.{Stacked, blocksOf, rulingOf, seen, findingOf, operandRefusal, instructed, takenBy, takenOf, Padded, SoundBlocks, Treed, Trees, Sound}
 use Rattle.checker.specs.declared.nesting.Blocks.{Blocks}
 use Rattle.checker.specs.declared.nesting.Nested.{Nested}
 use Rattle.checker.specs.declared.program.Program.{Program}
@@ -57,6 +57,10 @@ module _ (p : Program) (b : Blocks) (depth : b .depth ≡ 0) where
   pub nothing-seen : (words values : List ℕ) → programSeen p words [] ≡ nothing → programSeen p words (blocksOf b values) ≡ nothing
   nothing-seen words values e = rw depth e
 
+  pub nothing-treed : (values links : List ℕ) → length values ≡ 1024 → length links ≡ 2048 → Trees b values links
+  nothing-treed values links v l =
+      record { room = v; slots = l; each = subst (λ (k : ℕ). Treed values links (b .starts) k (b .held)) (sym depth) tt }
+
   pub nothing-counted : b .held ≡ 0 → p .immediates ≡ 0 → p .instructions ≡ 0 → Sound (record { program = p; blocks = b })
   nothing-counted h i n =
       record {
@@ -65,6 +69,10 @@ module _ (p : Program) (b : Blocks) (depth : b .depth ≡ 0) where
         held = omega arith;
         blocks = record { depth = omega arith; stacked = subst (λ (k : ℕ). Stacked (b .codes) (b .starts) k (b .held)) (sym depth) tt };
       }
+
+-- The trees of blocks that stay as they were.
+pub trees-same : (a b : Blocks) (values links : List ℕ) → a ≡ b → Trees b values links → Trees a values links
+trees-same a b values links e h = rw e h
 
 pub padded-same : (k n : ℕ) (words : List ℕ) → k ≡ n → Padded n words → Padded k words
 padded-same k n words e h = rw e h
@@ -153,6 +161,12 @@ module _ (s : State) (n : Nested) where
       by : (b : Bool) → takenBy b s n .state .program .immediates ≡ s .program .immediates
       by true = refl
       by false = refl
+
+    pub nested-trees : (values links : List ℕ) → Trees (n .blocks) values links → ((n .refusal ≡ 0 → ⊥) → n .blocks ≡ s .blocks) → Trees (t .state .blocks) values links
+    nested-trees values links h same = rw is (by (eqb (n .refusal) 0) refl) where
+      by : (b : Bool) → eqb (n .refusal) 0 ≡ b → Trees (takenBy b s n .state .blocks) values links
+      by true e = h
+      by false e = rw (same (eqb-false (n .refusal) 0 e)) at h
 
     pub nested-sound : Sound s → SoundBlocks (n .blocks) → n .blocks .held ≤ s .blocks .held + 1 → s .program .instructions < 1024 → Sound (t .state)
     nested-sound h b l f = rw is (by (eqb (n .refusal) 0)) where

@@ -13,6 +13,7 @@ use Rattle.blocks.specs.Nesting.{Open, openUif, openElse, openLoop, openSwitch,
 use Rattle.checker.specs.Sets.{isIn}
 use Rattle.checker.specs.Rules.{operandRules}
 use Rattle.checker.specs.Findings.{Seen, Finding, taken, due, mostImmediates, operandsFound, recordFinding}
+use Rattle.checker.specs.Tree.{Tree}
 use Rattle.checker.specs.Check.{Outcome, onward, programSeen, concluded}
 use Rattle.checker.specs.declared.Verdict.{Verdict}
 use Rattle.checker.specs.declared.Verdict.the-variants.{Accepted, Refused}
@@ -74,6 +75,12 @@ abbrev pub Stacked : List ℕ → List ℕ → ℕ → ℕ → Type 0
 Stacked codes starts zero end = Unit {0}
 Stacked codes starts (suc n) end =
     (getD codes n 0 < 5) × (getD starts n 0 ≤ end) × Stacked codes starts n (getD starts n 0)
+
+-- The words of each block are a tree.
+abbrev pub Treed : List ℕ → List ℕ → List ℕ → ℕ → ℕ → Type 0
+Treed values links starts zero end = Unit {0}
+Treed values links starts (suc n) end =
+    Tree values links (getD starts n 0) end × Treed values links starts n (getD starts n 0)
 
 -- What the code's answer on an instruction says, the values standing in `values` after it.
 abbrev pub rulingOf : Nested → List ℕ → Ruling
@@ -150,6 +157,11 @@ pub record Turned (s : Seen) (file : List ℕ) (at : ℕ) (t : Turn) (words valu
 pub record SoundBlocks (b : Blocks) : Type 0 where
   pub depth : b .depth ≤ mostOpen
   pub stacked : Stacked (b .codes) (b .starts) (b .depth) (b .held)
+
+pub record Trees (b : Blocks) (values links : List ℕ) : Type 0 where
+  pub room : length values ≡ 1024
+  pub slots : length links ≡ 2048
+  pub each : Treed values links (b .starts) (b .depth) (b .held)
 
 pub record Sound (s : State) : Type 0 where
   pub instructions : s .program .instructions ≤ mostInstructions

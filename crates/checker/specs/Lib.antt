@@ -2,4 +2,5 @@ pub mod Sets
 pub mod Rules
 pub mod Findings
 pub mod Check
+pub mod Tree
 pub mod Held

@@ -8,6 +8,7 @@ mod nesting;
 mod operands;
 pub mod program;
 pub mod sets;
+mod tree;
 mod walk;
 
 // What is said of a file.
@@ -30,7 +31,8 @@ pub fn check(file: &[u8]) -> Verdict
 {
     let mut words = [0u32; 1024];
     let mut values = [0u32; 1024];
-    let checked = walk::walk(file, &mut words, &mut values);
+    let mut links = [0u16; 2048];
+    let checked = walk::walk(file, &mut words, &mut values, &mut links);
     checked.verdict
 }
 
@@ -43,7 +45,8 @@ pub fn examine(file: &[u8], immediates: &mut [u32; 1024]) -> Checked
 {
     let mut words = [0u32; 1024];
     let mut values = [0u32; 1024];
-    let checked = walk::walk(file, &mut words, &mut values);
+    let mut links = [0u16; 2048];
+    let checked = walk::walk(file, &mut words, &mut values, &mut links);
     let verdict = checked.verdict;
     match verdict {
         Verdict::Accepted(_) => {

@@ -1,15 +1,15 @@
 // The open blocks, and the rules of nesting. The words of the CASEs of all open SWITCHes stand in one array, those of each
-// SWITCH from where it starts.
+// SWITCH from where it starts, and are a tree.
+use crate::tree;
 ghost use mathlib.Core.Path.{_≡_};
 ghost use mathlib.Core.Bool.{true};
 ghost use mathlib.Core.List.{List, [], _∷_};
-ghost use Prim.Native.Nat.{ℕ, _+_, _-_, _<_, _≤_};
-ghost use lib.Dec.{eqb};
-ghost use lib.ListN.{length, drop};
+ghost use Prim.Native.Nat.{ℕ, _+_, _<_, _≤_};
+ghost use lib.ListN.{drop};
 ghost use Rattle.format.specs.Kinds.{within};
 ghost use Rattle.blocks.specs.Control.{opOf, CASE};
-ghost use Rattle.blocks.specs.Nesting.{rule, nestingRule, switchRule, opens, openAfter, some};
-ghost use Rattle.checker.specs.Held.{openOf, newestFirst, blocksOf, topCode, topStart, topValues, someCode, rulingOf, SoundBlocks};
+ghost use Rattle.blocks.specs.Nesting.{rule, nestingRule, switchRule, opens, openAfter};
+ghost use Rattle.checker.specs.Held.{openOf, blocksOf, topCode, topStart, topValues, someCode, rulingOf, SoundBlocks, Trees};
 
 // The open blocks, the outermost first: a code each, and where its words start. `held` is where the words end.
 pub struct Blocks {
@@ -89,21 +89,6 @@ fn some_is(b: Blocks, lo: u8, hi: u8) -> bool
     false
 }
 
-// Whether a word is among n words from a place on.
-fn has_value(values: &[u32], from: usize, n: usize, x: u32) -> bool
-    requires { ⌜ from + n ≤ length (now values) ⌝ }
-    ensures { λ r. ⌜ r ≡ some (eqb x) (newestFirst (now (values .entry)) from n) ⌝ }
-{
-    let mut left = n;
-    while left != 0 {
-        left -= 1;
-        if x == values[from + left] {
-            return true;
-        }
-    }
-    false
-}
-
 // Whether an instruction of a kind is well nested: else 10.
 fn nesting_kept(b: Blocks, kind: u8) -> bool
     requires { ⌜ SoundBlocks b ⌝ }
@@ -124,8 +109,8 @@ fn nesting_kept(b: Blocks, kind: u8) -> bool
 }
 
 // Whether an instruction of a kind keeps the rules of a SWITCH: else 11. For a CASE x is its word.
-fn switch_kept(b: Blocks, values: &[u32], kind: u8, x: u32) -> bool
-    requires { ⌜ SoundBlocks b × (b .held ≤ length (now values)) ⌝ }
+fn switch_kept(b: Blocks, values: &[u32], links: &[u16; 2048], kind: u8, x: u32) -> bool
+    requires { ⌜ SoundBlocks b × (b .held ≤ 1024) × Trees b (now values) (now links) ⌝ }
     ensures { λ r. ⌜ r ≡ switchRule (opOf kind) x (blocksOf b (now (values .entry))) ⌝ }
 {
     let start = innermost_start(b);
@@ -133,7 +118,7 @@ fn switch_kept(b: Blocks, values: &[u32], kind: u8, x: u32) -> bool
     match kind {
         0x87 => innermost_is(b, SWITCH, SWITCH),
         0x88 => innermost_is(b, SWITCH, DEFAULTED) & (n != 0),
-        0x92 => innermost_is(b, SWITCH, SWITCH) & !has_value(values, start, n, x),
+        0x92 => innermost_is(b, SWITCH, SWITCH) & !tree::has_value(values, links, start, b.held, x),
         _ => !(innermost_is(b, SWITCH, SWITCH) & (n == 0)),
     }
 }
@@ -148,7 +133,7 @@ fn opens_block(kind: u8) -> bool
 // The blocks with one more inside them, which has no words.
 fn pushed(b: Blocks, code: u8) -> Blocks
     requires { ⌜ SoundBlocks b × (b .depth < 16) × (code < 5) ⌝ }
-    ensures { λ r. ⌜ ((values : List ℕ) → blocksOf r values ≡ openOf code [] ∷ blocksOf b values) × SoundBlocks r × (r .held ≤ b .held) ⌝ }
+    ensures { λ r. ⌜ ((values : List ℕ) → blocksOf r values ≡ openOf code [] ∷ blocksOf b values) × SoundBlocks r × (r .held ≤ b .held) × ((values : List ℕ) (links : List ℕ) → Trees b values links → Trees r values links) ⌝ }
 {
     let n = b.depth;
     let mut c = b;
@@ -161,7 +146,7 @@ fn pushed(b: Blocks, code: u8) -> Blocks
 // The blocks without the innermost, and without its words.
 fn popped(b: Blocks) -> Blocks
     requires { ⌜ SoundBlocks b ⌝ }
-    ensures { λ r. ⌜ ((values : List ℕ) → blocksOf r values ≡ drop 1 (blocksOf b values)) × SoundBlocks r × (r .held ≤ b .held) ⌝ }
+    ensures { λ r. ⌜ ((values : List ℕ) → blocksOf r values ≡ drop 1 (blocksOf b values)) × SoundBlocks r × (r .held ≤ b .held) × ((values : List ℕ) (links : List ℕ) → Trees b values links → Trees r values links) ⌝ }
 {
     let n = b.depth;
     let mut c = b;
@@ -176,7 +161,7 @@ fn popped(b: Blocks) -> Blocks
 // The blocks with another code for the innermost.
 fn recoded(b: Blocks, code: u8) -> Blocks
     requires { ⌜ SoundBlocks b × (b .depth ≡ 0 → ⊥) × (code < 5) ⌝ }
-    ensures { λ r. ⌜ ((values : List ℕ) → blocksOf r values ≡ openOf code (topValues b values) ∷ drop 1 (blocksOf b values)) × SoundBlocks r × (r .held ≤ b .held) ⌝ }
+    ensures { λ r. ⌜ ((values : List ℕ) → blocksOf r values ≡ openOf code (topValues b values) ∷ drop 1 (blocksOf b values)) × SoundBlocks r × (r .held ≤ b .held) × ((values : List ℕ) (links : List ℕ) → Trees b values links → Trees r values links) ⌝ }
 {
     let n = b.depth;
     let mut c = b;
@@ -185,11 +170,13 @@ fn recoded(b: Blocks, code: u8) -> Blocks
 }
 
 // The blocks with one word more for the innermost, which is a SWITCH.
-fn labelled(b: Blocks, values: &mut [u32], x: u32) -> Blocks
-    requires { ⌜ SoundBlocks b × (b .held < length (now values)) × (within 3 4 (topCode (b .codes) (b .depth)) ≡ true) ⌝ }
-    ensures { λ r. ⌜ (blocksOf r (now (values .exit)) ≡ openAfter CASE x (blocksOf b (now (values .entry)))) × SoundBlocks r × (r .held ≤ b .held + 1) ⌝ }
+fn labelled(b: Blocks, values: &mut [u32], links: &mut [u16; 2048], x: u32) -> Blocks
+    requires { ⌜ SoundBlocks b × (b .held < 1024) × (within 3 4 (topCode (b .codes) (b .depth)) ≡ true) × Trees b (now values) (now links) ⌝ }
+    ensures { λ r. ⌜ (blocksOf r (now (values .exit)) ≡ openAfter CASE x (blocksOf b (now (values .entry)))) × SoundBlocks r × (r .held ≤ b .held + 1) × Trees r (now (values .exit)) (now (links .exit)) ⌝ }
 {
     let n = b.held;
+    let place = tree::place_of(values, links, innermost_start(b), n, x);
+    tree::hang(links, place, n);
     values[n] = x;
     let mut c = b;
     c.held = n + 1;
@@ -197,9 +184,9 @@ fn labelled(b: Blocks, values: &mut [u32], x: u32) -> Blocks
 }
 
 // The blocks that are open after an instruction of a kind that no rule refuses.
-fn open_after(b: Blocks, values: &mut [u32], kind: u8, x: u32) -> Blocks
-    requires { ⌜ SoundBlocks b × (b .held < length (now values)) × (nestingRule (opOf kind) (blocksOf b (now values)) ≡ true) × (opens (opOf kind) ≡ true → b .depth < 16) ⌝ }
-    ensures { λ r. ⌜ (blocksOf r (now (values .exit)) ≡ openAfter (opOf kind) x (blocksOf b (now (values .entry)))) × SoundBlocks r × (r .held ≤ b .held + 1) ⌝ }
+fn open_after(b: Blocks, values: &mut [u32], links: &mut [u16; 2048], kind: u8, x: u32) -> Blocks
+    requires { ⌜ SoundBlocks b × (b .held < 1024) × (nestingRule (opOf kind) (blocksOf b (now values)) ≡ true) × (opens (opOf kind) ≡ true → b .depth < 16) × Trees b (now values) (now links) ⌝ }
+    ensures { λ r. ⌜ (blocksOf r (now (values .exit)) ≡ openAfter (opOf kind) x (blocksOf b (now (values .entry)))) × SoundBlocks r × (r .held ≤ b .held + 1) × Trees r (now (values .exit)) (now (links .exit)) ⌝ }
 {
     match kind {
         0x81 => recoded(b, ELSE),
@@ -210,15 +197,15 @@ fn open_after(b: Blocks, values: &mut [u32], kind: u8, x: u32) -> Blocks
         0x88 => popped(b),
         0x90 => pushed(b, UIF),
         0x91 => pushed(b, SWITCH),
-        0x92 => labelled(b, values, x),
+        0x92 => labelled(b, values, links, x),
         _ => b,
     }
 }
 
 // What the rules say of an instruction of a kind; for a CASE x is its word.
-pub fn nest(b: Blocks, values: &mut [u32], kind: u8, x: u32) -> Nested
-    requires { ⌜ SoundBlocks b × (b .held < length (now values)) ⌝ }
-    ensures { λ r. ⌜ (rulingOf r (now (values .exit)) ≡ rule (opOf kind) x (blocksOf b (now (values .entry)))) × SoundBlocks (r .blocks) × (r .blocks .held ≤ b .held + 1) ⌝ }
+pub fn nest(b: Blocks, values: &mut [u32], links: &mut [u16; 2048], kind: u8, x: u32) -> Nested
+    requires { ⌜ SoundBlocks b × (b .held < 1024) × Trees b (now values) (now links) ⌝ }
+    ensures { λ r. ⌜ (rulingOf r (now (values .exit)) ≡ rule (opOf kind) x (blocksOf b (now (values .entry)))) × SoundBlocks (r .blocks) × (r .blocks .held ≤ b .held + 1) × Trees (r .blocks) (now (values .exit)) (now (links .exit)) × ((r .refusal ≡ 0 → ⊥) → r .blocks ≡ b) ⌝ }
 {
     if !nesting_kept(b, kind) {
         return Nested {
@@ -226,7 +213,7 @@ pub fn nest(b: Blocks, values: &mut [u32], kind: u8, x: u32) -> Nested
             blocks: b,
         };
     }
-    if !switch_kept(b, values, kind, x) {
+    if !switch_kept(b, values, links, kind, x) {
         return Nested {
             refusal: 11,
             blocks: b,
@@ -240,6 +227,6 @@ pub fn nest(b: Blocks, values: &mut [u32], kind: u8, x: u32) -> Nested
     }
     Nested {
         refusal: 0,
-        blocks: open_after(b, values, kind, x),
+        blocks: open_after(b, values, links, kind, x),
     }
 }

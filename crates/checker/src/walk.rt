@@ -19,7 +19,7 @@ ghost use Rattle.blocks.specs.Nesting.{rule};
 ghost use Rattle.checker.specs.Findings.{nothing, nested, declarationFinding, immediateFinding, instructionFinding, recordFinding};
 ghost use Rattle.checker.specs.Check.{checkOf, told, toldOf, outcome};
 ghost use Rattle.checker.specs.declared.Verdict.the-variants.{Refused};
-ghost use Rattle.checker.specs.Held.{blocksOf, seen, findingOf, operandRefusal, takenOf, endOf, Turned, Sound, Padded};
+ghost use Rattle.checker.specs.Held.{blocksOf, seen, findingOf, operandRefusal, takenOf, endOf, Turned, Sound, Padded, Trees};
 
 // What the checker knows after some records.
 pub struct State {
@@ -55,7 +55,7 @@ const END: u8 = 0x89;
 fn declaration(s: State, file: &[u8], at: usize, next: usize) -> Taken
     requires { ⌜ Sound s × (at ≤ 65536) × (next ≤ 65536) × (next ≡ at + sizeAt (now file) at) ⌝ }
     ensures found { λ r. ⌜ ((words : List ℕ) (values : List ℕ) → findingOf r words values ≡ declarationFinding (seen s words values) (now (file .entry)) at) ⌝ }
-    ensures sound { λ r. ⌜ Sound (r .state) × (r .state .program .immediates ≡ s .program .immediates) ⌝ }
+    ensures sound { λ r. ⌜ Sound (r .state) × (r .state .program .immediates ≡ s .program .immediates) × (r .state .blocks ≡ s .blocks) ⌝ }
 {
     let p = s.program;
     if 0 < p.instructions {
@@ -90,7 +90,7 @@ fn declaration(s: State, file: &[u8], at: usize, next: usize) -> Taken
 fn immediate(s: State, file: &[u8], at: usize, next: usize, words: &mut [u32]) -> Taken
     requires { ⌜ Sound s × (at ≤ 65536) × (next ≤ 65536) × (next ≡ at + sizeAt (now file) at) × Padded (s .program .immediates) (now words) ⌝ }
     ensures found { λ r. ⌜ ((values : List ℕ) → findingOf r (now (words .exit)) values ≡ immediateFinding (seen s (now (words .entry)) values) (now (file .entry)) at) ⌝ }
-    ensures sound { λ r. ⌜ Sound (r .state) × Padded (r .state .program .immediates) (now (words .exit)) ⌝ }
+    ensures sound { λ r. ⌜ Sound (r .state) × Padded (r .state .program .immediates) (now (words .exit)) × (r .state .blocks ≡ s .blocks) ⌝ }
 {
     let p = s.program;
     if 0 < p.instructions {
@@ -164,20 +164,33 @@ fn after_nesting(s: State, n: Nested) -> Taken
 }
 
 // An instruction of a kind to which none of 6, 7 and 9 applies; for a CASE x is its word.
-fn nested_instruction(s: State, values: &mut [u32], kind: u8, x: u32) -> Taken
-    requires { ⌜ Sound s × (s .program .instructions < 1024) × (length (now values) ≡ 1024) ⌝ }
+fn nested_instruction(
+    s: State,
+    values: &mut [u32],
+    links: &mut [u16; 2048],
+    kind: u8,
+    x: u32,
+) -> Taken
+    requires { ⌜ Sound s × (s .program .instructions < 1024) × Trees (s .blocks) (now values) (now links) ⌝ }
     ensures found { λ r. ⌜ ((words : List ℕ) → findingOf r words (now (values .exit)) ≡ nested (seen s words (now (values .entry))) (rule (opOf kind) x (blocksOf (s .blocks) (now (values .entry))))) ⌝ }
-    ensures sound { λ r. ⌜ Sound (r .state) × (r .state .program .immediates ≡ s .program .immediates) ⌝ }
+    ensures sound { λ r. ⌜ Sound (r .state) × (r .state .program .immediates ≡ s .program .immediates) × Trees (r .state .blocks) (now (values .exit)) (now (links .exit)) ⌝ }
 {
     let blocks = s.blocks;
-    after_nesting(s, nesting::nest(blocks, values, kind, x))
+    after_nesting(s, nesting::nest(blocks, values, links, kind, x))
 }
 
 // The instruction at a place.
-fn instruction(s: State, file: &[u8], at: usize, words: &[u32], values: &mut [u32]) -> Taken
-    requires { ⌜ Sound s × (at ≤ 65536) × Padded (s .program .immediates) (now words) × (length (now values) ≡ 1024) ⌝ }
+fn instruction(
+    s: State,
+    file: &[u8],
+    at: usize,
+    words: &[u32],
+    values: &mut [u32],
+    links: &mut [u16; 2048],
+) -> Taken
+    requires { ⌜ Sound s × (at ≤ 65536) × Padded (s .program .immediates) (now words) × Trees (s .blocks) (now values) (now links) ⌝ }
     ensures found { λ r. ⌜ findingOf r (now (words .entry)) (now (values .exit)) ≡ instructionFinding (seen s (now (words .entry)) (now (values .entry))) (now (file .entry)) at ⌝ }
-    ensures sound { λ r. ⌜ Sound (r .state) × (r .state .program .immediates ≡ s .program .immediates) ⌝ }
+    ensures sound { λ r. ⌜ Sound (r .state) × (r .state .program .immediates ≡ s .program .immediates) × Trees (r .state .blocks) (now (values .exit)) (now (links .exit)) ⌝ }
 {
     let p = s.program;
     let kind = format::fields::byte_at(file, at);
@@ -189,14 +202,21 @@ fn instruction(s: State, file: &[u8], at: usize, words: &[u32], values: &mut [u3
         };
     }
     let word = word_of(p.immediates, words, file, at);
-    nested_instruction(s, values, kind, word)
+    nested_instruction(s, values, links, kind, word)
 }
 
 // The record at a place.
-fn record(s: State, file: &[u8], at: usize, words: &mut [u32], values: &mut [u32]) -> Taken
-    requires { ⌜ Sound s × (at ≤ length (now file)) × (length (now file) ≤ 65536) × Padded (s .program .immediates) (now words) × (length (now values) ≡ 1024) ⌝ }
+fn record(
+    s: State,
+    file: &[u8],
+    at: usize,
+    words: &mut [u32],
+    values: &mut [u32],
+    links: &mut [u16; 2048],
+) -> Taken
+    requires { ⌜ Sound s × (at ≤ length (now file)) × (length (now file) ≤ 65536) × Padded (s .program .immediates) (now words) × Trees (s .blocks) (now values) (now links) ⌝ }
     ensures found { λ r. ⌜ findingOf r (now (words .exit)) (now (values .exit)) ≡ recordFinding (seen s (now (words .entry)) (now (values .entry))) (now (file .entry)) at ⌝ }
-    ensures sound { λ r. ⌜ Sound (r .state) × Padded (r .state .program .immediates) (now (words .exit)) ⌝ }
+    ensures sound { λ r. ⌜ Sound (r .state) × Padded (r .state .program .immediates) (now (words .exit)) × Trees (r .state .blocks) (now (values .exit)) (now (links .exit)) ⌝ }
 {
     let kind = format::fields::byte_at(file, at);
     if format::kinds::body_length(kind) == format::kinds::UNKNOWN {
@@ -215,13 +235,13 @@ fn record(s: State, file: &[u8], at: usize, words: &mut [u32], values: &mut [u32
     match kind {
         1 => declaration(s, file, at, at + size),
         2 => immediate(s, file, at, at + size, words),
-        _ => instruction(s, file, at, words, values),
+        _ => instruction(s, file, at, words, values, links),
     }
 }
 
 // Nothing has been seen.
 fn started() -> State
-    ensures { λ r. ⌜ ((words : List ℕ) (values : List ℕ) → seen r words values ≡ nothing) × Sound r × (r .program .immediates ≡ 0) ⌝ }
+    ensures { λ r. ⌜ ((words : List ℕ) (values : List ℕ) → seen r words values ≡ nothing) × Sound r × (r .program .immediates ≡ 0) × ((values : List ℕ) (links : List ℕ) → length values ≡ 1024 → length links ≡ 2048 → Trees (r .blocks) values links) ⌝ }
 {
     State {
         program: program::unseen(),
@@ -249,12 +269,19 @@ fn unended(end: usize) -> Verdict
 }
 
 // The record at a place, and how the walk goes on after it.
-fn take_turn(s: State, file: &[u8], at: usize, words: &mut [u32], values: &mut [u32]) -> Turn
-    requires { ⌜ Sound s × (at < length (now file)) × (length (now file) ≤ 65536) × Padded (s .program .immediates) (now words) × (length (now values) ≡ 1024) ⌝ }
+fn take_turn(
+    s: State,
+    file: &[u8],
+    at: usize,
+    words: &mut [u32],
+    values: &mut [u32],
+    links: &mut [u16; 2048],
+) -> Turn
+    requires { ⌜ Sound s × (at < length (now file)) × (length (now file) ≤ 65536) × Padded (s .program .immediates) (now words) × Trees (s .blocks) (now values) (now links) ⌝ }
     ensures turned { λ r. ⌜ Turned (seen s (now (words .entry)) (now (values .entry))) (now (file .entry)) at r (now (words .exit)) (now (values .exit)) ⌝ }
-    ensures sound { λ r. ⌜ Sound (r .state) × Padded (r .state .program .immediates) (now (words .exit)) ⌝ }
+    ensures sound { λ r. ⌜ Sound (r .state) × Padded (r .state .program .immediates) (now (words .exit)) × Trees (r .state .blocks) (now (values .exit)) (now (links .exit)) ⌝ }
 {
-    let taken = record(s, file, at, words, values);
+    let taken = record(s, file, at, words, values, links);
     let state = taken.state;
     if taken.refusal != 0 {
         return Turn {
@@ -276,9 +303,10 @@ fn take_turn(s: State, file: &[u8], at: usize, words: &mut [u32], values: &mut [
     }
 }
 
-// The whole check. The immediates' words go to the first of `words`, which are 0 before; `values` holds the words of CASEs.
-pub fn walk(file: &[u8], words: &mut [u32], values: &mut [u32]) -> Checked
-    requires { ⌜ Padded 0 (now words) × (length (now values) ≡ 1024) ⌝ }
+// The whole check. The immediates' words go to the first of `words`, which are 0 before; `values` holds the words of CASEs,
+// `links` the links of their trees.
+pub fn walk(file: &[u8], words: &mut [u32], values: &mut [u32], links: &mut [u16; 2048]) -> Checked
+    requires { ⌜ Padded 0 (now words) × (length (now values) ≡ 1024) × (length (now links) ≡ 2048) ⌝ }
     ensures found { λ r. ⌜ outcome r (now (words .exit)) ≡ checkOf (now (file .entry)) ⌝ }
     ensures told { λ r. ⌜ told (r .verdict) ≡ toldOf (checkOf (now (file .entry))) ⌝ }
     ensures padded { λ r. ⌜ Padded (r .program .immediates) (now (words .exit)) × (r .program .immediates ≤ 256) ⌝ }
@@ -293,7 +321,7 @@ pub fn walk(file: &[u8], words: &mut [u32], values: &mut [u32]) -> Checked
     let mut s = started();
     let mut at: usize = 0;
     while at < end {
-        let turn = take_turn(s, file, at, words, values);
+        let turn = take_turn(s, file, at, words, values, links);
         s = turn.state;
         let way = turn.way;
         if let Way::Ended(verdict) = way {

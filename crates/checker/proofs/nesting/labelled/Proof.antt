@@ -1,6 +1,7 @@
--- The word stands above those of every open block.
+-- The word stands above those of every open block, and its node hangs where the search for it ended.
 use borrow.Author.Needs.{needs}
 use Rattle.checker.proofs.Opening.{labelled-blocks, labelled-stacked}
+use Rattle.checker.proofs.Searched.{top-tree, labelled-trees}
 use Rattle.checker.proofs.nesting.labelled.Statement.{statement}
 use Rattle.checker.proofs.nesting.labelled.Tie as tie
 
@@ -8,5 +9,8 @@ pub labelled-spec : {M : Type 1} → statement M
 labelled-spec =
     tie.close
     (tie.spec
+    (λ c κs. search needs)
+    (λ c κs. search (needs, top-tree))
+    (λ c κs. search needs)
     (search needs) (search needs) (search needs) (search needs)
-    (λ c. (search (needs, labelled-blocks), search (needs, labelled-stacked), search needs)))
+    (λ c. (search (needs, labelled-blocks), search (needs, labelled-stacked), search needs, search (needs, labelled-trees))))

@@ -1,6 +1,7 @@
 -- What is left are the blocks around the innermost.
 use borrow.Author.Needs.{needs}
 use Rattle.checker.proofs.Opening.{closed-none, closed-blocks, closed-stacked, closed-below}
+use Rattle.checker.proofs.Searched.{closed-treed}
 use Rattle.checker.proofs.nesting.popped.Statement.{statement}
 use Rattle.checker.proofs.nesting.popped.Tie as tie
 
@@ -8,6 +9,6 @@ pub popped-spec : {M : Type 1} → statement M
 popped-spec =
     tie.close
     (tie.spec
-    (λ c. ((λ values. search (needs, closed-none)), search needs, search needs))
+    (λ c. ((λ values. search (needs, closed-none)), search needs, search needs, (λ values links t. search needs)))
     (search needs) (search needs) (search needs) (search needs)
-    (λ c. ((λ values. search (needs, closed-blocks)), search (needs, closed-stacked), search (needs, closed-below))))
+    (λ c. ((λ values. search (needs, closed-blocks)), search (needs, closed-stacked), search (needs, closed-below), (λ values links t. search (needs, closed-treed)))))

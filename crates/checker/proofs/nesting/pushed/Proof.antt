@@ -1,6 +1,7 @@
 -- The new block stands above the others, and has no words.
 use borrow.Author.Needs.{needs}
 use Rattle.checker.proofs.Opening.{pushed-blocks, pushed-stacked}
+use Rattle.checker.proofs.Searched.{pushed-treed}
 use Rattle.checker.proofs.nesting.pushed.Statement.{statement}
 use Rattle.checker.proofs.nesting.pushed.Tie as tie
 
@@ -9,4 +10,4 @@ pushed-spec =
     tie.close
     (tie.spec
     (search needs) (search needs) (search needs) (search needs)
-    (λ c. ((λ values. search (needs, pushed-blocks)), search (needs, pushed-stacked), search needs)))
+    (λ c. ((λ values. search (needs, pushed-blocks)), search (needs, pushed-stacked), search needs, (λ values links t. search (needs, pushed-treed)))))

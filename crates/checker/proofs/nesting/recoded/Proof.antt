@@ -9,4 +9,4 @@ recoded-spec =
     tie.close
     (tie.spec
     (search needs) (search needs)
-    (λ c. ((λ values. search (needs, recoded-blocks)), search (needs, recoded-stacked), search needs)))
+    (λ c. ((λ values. search (needs, recoded-blocks)), search (needs, recoded-stacked), search needs, (λ values links t. search needs))))

@@ -1,6 +1,7 @@
 -- Each arm asks what the rule asks of the innermost block, by its code and its words.
 use borrow.Author.Needs.{needs}
 use Rattle.checker.proofs.Stack.{default-kept, endswitch-kept, case-kept, others-kept}
+use Rattle.checker.proofs.Searched.{top-tree}
 use Rattle.checker.proofs.nesting.switch_kept.Statement.{statement}
 use Rattle.checker.proofs.nesting.switch_kept.Tie as tie
 
@@ -13,7 +14,7 @@ switch-kept-spec =
     (λ c κs. search needs)
     (λ c κs. search needs)
     (λ c κs. search needs)
-    (λ c κs. search needs)
+    (λ c κs. search (needs, top-tree))
     (λ c κs. search needs)
     (λ c. search (needs, default-kept))
     (λ c. search (needs, endswitch-kept))

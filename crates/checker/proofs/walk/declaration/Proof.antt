@@ -11,13 +11,13 @@ unfolding seen
 declaration-spec =
     tie.close
     (tie.spec
-    (λ c. ((λ words values. search (needs, declaration-5)), (search needs, search needs)))
+    (λ c. ((λ words values. search (needs, declaration-5)), (search needs, search needs, search needs)))
     (search needs)
     (λ c κs. search needs)
     (λ c κs. search needs)
-    (λ c. ((λ words values. search (needs, declaration-7)), (search needs, search needs)))
+    (λ c. ((λ words values. search (needs, declaration-7)), (search needs, search needs, search needs)))
     (search needs) (search needs)
     (λ c κs. search needs)
-    (λ c. ((λ words values. search (needs, declaration-8)), (search needs, search needs)))
+    (λ c. ((λ words values. search (needs, declaration-8)), (search needs, search needs, search needs)))
     (λ c κs. search (needs, kept-rule))
-    (λ c. ((λ words values. search (needs, declaration-taken, c .with-declaration .ensures .0)), (search (needs, sound-declaration), search needs))))
+    (λ c. ((λ words values. search (needs, declaration-taken, c .with-declaration .ensures .0)), (search (needs, sound-declaration), search needs, search needs))))

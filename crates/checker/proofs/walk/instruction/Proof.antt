@@ -10,8 +10,8 @@ instruction-spec =
     (tie.spec
     (λ c κs. search needs)
     (λ c κs. search needs)
-    (λ c. (search (needs, refused-operands), (search needs, search needs)))
+    (λ c. (search (needs, refused-operands), (search needs, search needs, search needs)))
     (λ c κs. search needs)
     (λ c κs. search (needs, room-left))
     (search needs)
-    (λ c. (search (needs, nested-found, c .before .before .nested-instruction .ensures .0), (search needs, search needs))))
+    (λ c. (search (needs, nested-found, c .before .before .nested-instruction .ensures .0), (search needs, search needs, search needs))))

@@ -10,10 +10,10 @@ take-turn-spec =
     (tie.spec
     (λ c κs. search needs)
     (search needs) (search needs) (search needs)
-    (λ c. (record { leads = λ rest. search (needs, turn-refused); whole = λ e. not-on e; tells = tt }, (search needs, search needs)))
+    (λ c. (record { leads = λ rest. search (needs, turn-refused); whole = λ e. not-on e; tells = tt }, (search needs, search needs, search needs)))
     (λ c κs. search needs)
     (search needs) (search needs)
-    (λ c. (record { leads = λ rest. search (needs, turn-on rest); whole = λ e. search (needs, turn-whole); tells = tt }, (search needs, search needs)))
+    (λ c. (record { leads = λ rest. search (needs, turn-on rest); whole = λ e. search (needs, turn-whole); tells = tt }, (search needs, search needs, search needs)))
     (λ c κs. search needs)
     (search needs) (search needs)
-    (λ c. (record { leads = λ rest. search (needs, turn-ends); whole = λ e. not-on e; tells = end-tells _ _ _ _ (c .end-verdict .ensures) }, (search needs, search needs))))
+    (λ c. (record { leads = λ rest. search (needs, turn-ends); whole = λ e. not-on e; tells = end-tells _ _ _ _ (c .end-verdict .ensures) }, (search needs, search needs, search needs))))

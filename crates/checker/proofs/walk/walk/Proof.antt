@@ -4,18 +4,18 @@ use Prim.Native.Nat.{_-_, _≤_}
 use mathlib.Core.Path.{_≡_}
 use lib.ListN.{length}
 use Rattle.format.proofs.Walk.{walk-fits, size-fits-by}
-use Rattle.checker.specs.Held.{seen, Sound, Padded}
+use Rattle.checker.specs.Held.{seen, Sound, Padded, Trees}
 use Rattle.checker.proofs.Taking.{padded-same}
 use Rattle.checker.proofs.Walking.{Going, check-long, check-long-told, check-start, walk-stops, walk-tells, walk-goes, walk-less, ends-so, ends-told}
 use Rattle.checker.proofs.walk.walk.Statement.{statement}
 use Rattle.checker.proofs.walk.walk.Tie as tie
 
 abbrev Inv-loop : tie.InvT-loop
-Inv-loop file words₀ values₀ end s₀ at₀ words values s at =
-    Going file at (seen s words values) × Sound s × Padded (s .program .immediates) words × (length words ≡ length words₀) × (length values ≡ length values₀) × (length values ≡ 1024) × (at ≤ length file) × (length file ≤ 65536)
+Inv-loop file words₀ values₀ links₀ end s₀ at₀ words values links s at =
+    Going file at (seen s words values) × Sound s × Padded (s .program .immediates) words × (length words ≡ length words₀) × (length values ≡ length values₀) × Trees (s .blocks) values links × (at ≤ length file) × (length file ≤ 65536)
 
 abbrev μ-loop : tie.MeasureT-loop
-μ-loop file words₀ values₀ end s₀ at₀ words values s at = length file - at
+μ-loop file words₀ values₀ links₀ end s₀ at₀ words values links s at = length file - at
 
 pub walk-spec : {M : Type 1} → statement M
 walk-spec =
@@ -25,7 +25,7 @@ walk-spec =
     (λ c κs. search needs)
     (λ c. (search (needs, check-long), (search (needs, check-long-told), (search (needs, padded-same), search needs))))
     (λ c κs. search needs)
-    (λ c. (search (needs, check-start, c .started .ensures .0), search needs, search (needs, padded-same), search needs, search needs, search needs, search needs, search needs))
+    (λ c. (search (needs, check-start, c .started .ensures .0), search needs, search (needs, padded-same), search needs, search needs, search (needs, c .started .ensures .3), search needs, search needs))
     (λ c κs. search needs)
     (search needs) (search needs) (search needs)
     (λ c. (search (needs, walk-stops), (search (needs, walk-tells), (search needs, search needs))))
