@@ -4,6 +4,7 @@ pub mod Files
 pub mod Sources
 pub mod Stack
 pub mod Opening
+pub mod Search
 pub mod Trees
 pub mod Searched
 pub mod Records

@@ -2,7 +2,7 @@
 -- at no more than 33 nodes.
 use borrow.Author.Needs.{needs}
 use Prim.Native.Nat.{_-_}
-use Rattle.checker.proofs.Trees.{Searching, search-root, root-empty, search-first, search-shallow, search-missing, missing-none, slot-linked, search-less, search-next, search-here, here-among}
+use Rattle.checker.proofs.Search.{Searching, search-root, root-empty, search-first, search-shallow, search-missing, missing-none, slot-linked, search-less, search-next, search-here, here-among}
 use Rattle.checker.proofs.tree.place_of.Statement.{statement}
 use Rattle.checker.proofs.tree.place_of.Tie as tie
 
