@@ -159,16 +159,6 @@ module _ (n : ℕ) where
         let t : Stacked codes starts (suc (n - 1)) end = subst (λ (m : ℕ). Stacked codes starts m end) (pred n h) s in
         t .1
 
-  module _ (ws : List ℕ) (from x : ℕ) (w : Bool) (whole : w ≡ some (eqb x) (newestFirst ws from n)) where
-    pub value-found : (n ≡ 0 → ⊥) → x ≡ getD ws (from + (n - 1)) 0 → true ≡ w
-    value-found h e = sym (whole ∙ ap (λ (m : ℕ). some (eqb x) (newestFirst ws from m)) (pred n h) ∙ rw (eq-eqb x _ e))
-
-    pub value-on : (n ≡ 0 → ⊥) → (x ≡ getD ws (from + (n - 1)) 0 → ⊥) → w ≡ some (eqb x) (newestFirst ws from (n - 1))
-    value-on h e = whole ∙ ap (λ (m : ℕ). some (eqb x) (newestFirst ws from m)) (pred n h) ∙ rw (ne-eqb x _ e)
-
-    pub value-end : n ≡ 0 → false ≡ w
-    value-end z = sym (whole ∙ rw z)
-
 -- ---- The rules of a SWITCH
 
 length-newest : (ws : List ℕ) (from n : ℕ) → length (newestFirst ws from n) ≡ n

@@ -117,12 +117,6 @@ module _ (p : Program) (kind : ℕ) (file : List ℕ) (at : ℕ) where
 pub room-left : (p : Program) (kind : ℕ) (file : List ℕ) (at m : ℕ) → m ≡ operandRefusal p kind file at → m ≡ 0 → p .instructions < 1024
 room-left p kind file at m e z = room-in p kind file at (sym e ∙ z)
 
-pub values-left : (s : State) (kind : ℕ) (file values : List ℕ) (at m : ℕ) → m ≡ operandRefusal (s .program) kind file at → m ≡ 0 → length values ≡ 1024 → Sound s
-    → s .blocks .held < length values
-values-left s kind file values at m e z l sound =
-    let h = sound .held in
-    omega (arith, room-left (s .program) kind file at m e z)
-
 module _ (s : State) (kind : ℕ) (words values file : List ℕ) (at : ℕ) (padded : Padded (s .program .immediates) words) (sound : Sound s) (here : kind ≡ getD file at 0) where
   whole : instructionFinding (seen s words values) file at
       ≡ cond (eqb (operandRefusal (s .program) kind file at) 0)

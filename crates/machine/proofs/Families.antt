@@ -1,5 +1,5 @@
--- Families of instructions: an arm of a match on the kind is the family's table at that kind, and the kinds from one number
--- to another are all of one family, which a computed test says.
+-- Families of instructions: an arm of a match on the kind is the family's table at that kind, and the default arm is met by
+-- none of them.
 -- Assumes nothing.
 use Rattle.machine.specs.Arithmetic.{countOr, halves, pair, wide, wideOf, wideUnary, wideUnaryOf, resultWord}
 use Rattle.format.specs.Kinds.{within}

@@ -94,10 +94,6 @@ module _ (d : ℕ → ℕ → Bool) (r : List ℕ) (s : Source) where
 
 -- ---- components
 
-pub components-are : (f : ℕ → ℕ) (x y z w : ℕ) → x ≡ f 0 → y ≡ f 1 → z ≡ f 2 → w ≡ f 3 → x ∷ y ∷ z ∷ w ∷ [] ≡ components f
-unfolding components
-components-are f x y z w ex ey ez ew = cc
-
 pub four-past : (l : List ℕ) (first : ℕ) → length l < first + 4 → zeros ≡ fourAt l first
 unfolding fourAt
 four-past l first h = rw (lt-leb (first + 4) (length l) h)

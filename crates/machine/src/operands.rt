@@ -6,7 +6,6 @@ use format::fields::source_in;
 use format::kinds::sources_of;
 use words::sums::neg32;
 ghost use mathlib.Core.Path.{_≡_};
-ghost use mathlib.Core.Bool.{cond};
 ghost use Prim.Native.Nat.{_+_, _*_, _<_, _^_};
 ghost use lib.Dec.{eqb};
 ghost use lib.ListN.{getD, set};
