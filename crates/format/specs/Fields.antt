@@ -33,6 +33,10 @@ unfoldable pub declarationAt : List ℕ → ℕ → Declaration
 declarationAt file p =
     record { file = getD file p 0; first = word16 file (p + 1); last = word16 file (p + 3) }
 
--- The word of a CASE record at place p: "CASE compares the component its swizzle's x selects", of the immediate its index names.
+-- Which of the immediates' words a CASE record at place p names: "CASE compares the component its swizzle's x selects", of the
+-- immediate its index names.
+abbrev pub caseAt : List ℕ → ℕ → ℕ
+caseAt file p = 4 * word16 file (p + 2) + getD file (p + 4) 0 % 4
+
 unfoldable pub caseWord : List ℕ → List ℕ → ℕ → ℕ
-caseWord immediates file p = getD immediates (4 * word16 file (p + 2) + getD file (p + 4) 0 % 4) 0
+caseWord immediates file p = getD immediates (caseAt file p) 0

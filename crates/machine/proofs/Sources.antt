@@ -1,7 +1,8 @@
 -- Sources: a register number with its address, the words of each file, and the four components.
 -- Assumes nothing.
-use Rattle.machine.specs.Effect.{firstSource, nthSource, readAt, sourcesOf}
-use Rattle.machine.specs.Operands.{Env, bitIn, components, declaredIn, fourAt, ifDeclared, negated, registerOf, registerWords, selected, sourceOf, taken, zeros}
+use Rattle.machine.specs.Bank.{envIn, part}
+use Rattle.machine.specs.Operands.{Env, bitIn, declaredIn, firstSource, fourAt, fourOf, ifDeclared, negated, nthSource, readAt, registerOf, registerWords, selected, sourceOf, sourcesOf, taken, wordIn}
+use Rattle.effects.specs.Destinations.{components, zeros}
 use Rattle.words.specs.Word.{neg, signed}
 use Rattle.format.specs.Kinds.{formOf, sources}
 use Rattle.format.proofs.Ranges.{every, in-range}
@@ -12,9 +13,9 @@ use mathlib.Core.Bool.{Bool, cond, false, true}
 use mathlib.Core.List.{List, [], _∷_}
 use native.Mathlib.Omega.{arith}
 use native.Mathlib.Nat.{add-zero, mod-lt}
-use borrow.Author.Tests.{le-leb, le-ltb, lt-leb, lt-ltb, ne-eqb}
+use borrow.Author.Tests.{le-leb, le-ltb, leb-false, lt-leb, lt-ltb, ne-eqb}
 use lib.Dec.{T, eqb, leb, leb→le, ltb}
-use lib.ListN.{drop, drop-of-length-le, getD, length, length-drop, set, take}
+use lib.ListN.{List·getD-eq-default, drop, drop-of-length-le, getD, length, length-drop, set, take}
 use lib.Seq.{take-all}
 use lib.IntN.{_+ℤ_, pos, subℕ}
 use Rattle.format.specs.declared.fields.Source.{Source}
@@ -88,9 +89,10 @@ module _ (d : ℕ → ℕ → Bool) (r : List ℕ) (s : Source) where
   unfolding registerOf
   register-direct h = rw h
 
-  pub register-indirect : (a : ℕ) (p : Place) → (s .modifier / 2 ≡ 0 → ⊥) → a ≡ getD r (1151 + s .modifier / 2) 0 → p ≡ ifDeclared d (s .file) (pos (s .index) +ℤ signed 32 a) → p ≡ registerOf d r s
-  unfolding registerOf
-  register-indirect a p h ea ep = cc (ne-eqb (s .modifier / 2) 0 h)
+pub register-indirect : (l m r : List ℕ) (s : Source) (a : ℕ) (p : Place) → (s .modifier / 2 ≡ 0 → ⊥) → a ≡ getD r (1151 + s .modifier / 2) 0 → l ≡ m
+    → p ≡ ifDeclared (declaredIn l) (s .file) (pos (s .index) +ℤ signed 32 a) → p ≡ registerOf (declaredIn m) r s
+unfolding registerOf
+register-indirect l m r s a p h ea el ep = cc (ne-eqb (s .modifier / 2) 0 h)
 
 -- ---- components
 
@@ -121,27 +123,42 @@ module _ (l : List ℕ) (s : Source) (i j k m : ℕ) (ei : i ≡ selected (s .sw
 
 -- ---- the register of each file
 
-module _ (inputs constants immediates r : List ℕ) (f n : ℕ) where
+-- of m whole registers, one that is not there has no word of its four
+four-whole : (l : List ℕ) (m n : ℕ) → length l ≡ 4 * m → fourAt l (4 * n) ≡ fourOf (wordIn l) n
+unfolding fourAt components
+four-whole l m n long = on (leb (4 * n + 4) (length l)) refl
+  where
+    none : length l ≤ 4 * n → (i : ℕ) → 0 ≡ wordIn l (4 * n + i)
+    none past i = sym (List·getD-eq-default l 0 (omega arith))
+
+    on : (t : Bool) → leb (4 * n + 4) (length l) ≡ t → cond t (components (λ i. wordIn l (4 * n + i))) zeros ≡ components (λ i. wordIn l (4 * n + i))
+    on true h = refl
+    on false h =
+        let past : length l ≤ 4 * n = omega (arith, leb-false (4 * n + 4) (length l) h) in
+        cc (none past 0, none past 1, none past 2, none past 3)
+
+module _ (bank r : List ℕ) (f n : ℕ) (l v : List ℕ) (ev : v ≡ fourAt l (4 * n)) where
   abbrev words : List ℕ
-  words = registerWords inputs constants immediates r f n
+  words = registerWords (envIn bank) r f n
 
-  pub register-const : (v : List ℕ) → f ≡ 1 → v ≡ fourAt constants (4 * n) → v ≡ words
+  pub register-const : f ≡ 1 → l ≡ part bank 0 4096 → length l ≡ 4096 → v ≡ words
   unfolding registerWords
-  register-const v h e = rw h e
+  register-const h el long = rw (h, ← el) (ev ∙ four-whole l 1024 n long)
 
-  pub register-in : (v : List ℕ) → f ≡ 2 → v ≡ fourAt inputs (4 * n) → v ≡ words
+  pub register-in : f ≡ 2 → l ≡ part bank 4096 128 → length l ≡ 128 → v ≡ words
   unfolding registerWords
-  register-in v h e = rw h e
+  register-in h el long = rw (h, ← el) (ev ∙ four-whole l 32 n long)
 
-  pub register-temp : (v : List ℕ) → f ≡ 4 → v ≡ fourAt r (128 + 4 * n) → v ≡ words
+  pub register-imm : f ≡ 6 → l ≡ part bank 4224 1024 → length l ≡ 1024 → v ≡ words
   unfolding registerWords
-  register-temp v h e = rw h e
+  register-imm h el long = rw (h, ← el) (ev ∙ four-whole l 256 n long)
 
-  pub register-imm : (v : List ℕ) → f ≡ 6 → v ≡ fourAt immediates (4 * n) → v ≡ words
+module _ (e : Env) (r : List ℕ) (f n : ℕ) where
+  pub register-temp : (v : List ℕ) → f ≡ 4 → v ≡ fourAt r (128 + 4 * n) → v ≡ registerWords e r f n
   unfolding registerWords
-  register-imm v h e = rw h e
+  register-temp v h ev = rw h ev
 
-  pub register-none : (f ≡ 1 → ⊥) → (f ≡ 2 → ⊥) → (f ≡ 4 → ⊥) → (f ≡ 6 → ⊥) → zeros ≡ words
+  pub register-none : (f ≡ 1 → ⊥) → (f ≡ 2 → ⊥) → (f ≡ 4 → ⊥) → (f ≡ 6 → ⊥) → zeros ≡ registerWords e r f n
   unfolding registerWords
   register-none a b c d = simp (ne-eqb f 1 a, ne-eqb f 2 b, ne-eqb f 4 c, ne-eqb f 6 d)
 
@@ -150,7 +167,7 @@ module _ (e : Env) (r : List ℕ) (s : Source) (p : Place) (ep : p ≡ registerO
   unfolding sourceOf
   source-nowhere h = rw (← ep, h)
 
-  pub source-register : (n : ℕ) (l v : List ℕ) → p ≡ Register n → l ≡ registerWords (e .inputs) (e .constants) (e .immediates) r (s .file) n → v ≡ taken l s → v ≡ sourceOf e r s
+  pub source-register : (n : ℕ) (l v : List ℕ) → p ≡ Register n → l ≡ registerWords e r (s .file) n → v ≡ taken l s → v ≡ sourceOf e r s
   unfolding sourceOf
   source-register n l v h el ev = rw (← ep, h, ← el) ev
 

@@ -1,10 +1,12 @@
 -- A step: each arm of the match is the step of the table's row, by the control instruction that the kind is.
 -- Assumes nothing.
-use Rattle.machine.specs.Effect.{NONE, effectOf, familyOf, recordEffect, sourcesOf, state}
-use Rattle.machine.specs.Step.{labelsOf, machineOf, stepped, testOf}
-use Rattle.machine.specs.Operands.{Env, State}
-use Rattle.machine.specs.Arithmetic.{sourceWord}
-use Rattle.machine.proofs.Effects.{kindIn, same-family}
+use Rattle.effects.specs.Arithmetic.{sourceWord}
+use Rattle.effects.specs.Destinations.{State}
+use Rattle.effects.specs.Effect.{NONE, effectOf, familyOf, state}
+use Rattle.effects.proofs.Effects.{kindIn, same-family}
+use Rattle.machine.specs.Bank.{envIn, part}
+use Rattle.machine.specs.Operands.{Env, sourcesOf, wordIn}
+use Rattle.machine.specs.Step.{labelsOf, machineOf, recordEffect, stepped, testOf}
 use Rattle.machine.proofs.Walks.{walk-labels}
 use Rattle.format.specs.Kinds.{within}
 use Rattle.format.specs.Fields.{destinationAt}
@@ -97,12 +99,12 @@ module _ (e : Env) (file rows : List ℕ) (n : ℕ) (r m : List ℕ) where
       unfolding opOf
       uif-true h z = control UIF 0x90 refl refl (At (n + 1)) h (rw (← ex, ne-eqb (sourceWord o 0 0) 0 z, add-one n))
 
-      pub switch-step : (l j w : ℕ) → k ≡ 0x91 → l ≡ rowIn rows n .label → j ≡ rowIn rows n .jump
-          → w ≡ walk (labelsOf (e .immediates) file (placeIn rows)) (rowIn rows) mostInstructions (sourceWord o 0 0) l j → stepped (At w) r m ≡ here
+      switch-step : (immediates : List ℕ) (l j w : ℕ) → k ≡ 0x91 → l ≡ rowIn rows n .label → j ≡ rowIn rows n .jump
+          → w ≡ walk (labelsOf immediates file (placeIn rows)) (rowIn rows) mostInstructions (sourceWord o 0 0) l j → e .immediates ≡ wordIn immediates → stepped (At w) r m ≡ here
       unfolding opOf
-      switch-step l j w h el ej ew =
+      switch-step immediates l j w h el ej ew same =
           control SWITCH 0x91 refl refl (At w) h
-          (ap At (ew ∙ (walk-labels e file (placeIn rows) (rowIn rows) mostInstructions (sourceWord o 0 0) l j ∙ rw (ex, el, ej))))
+          (ap At (ew ∙ (walk-labels e immediates same file (placeIn rows) (rowIn rows) mostInstructions (sourceWord o 0 0) l j ∙ rw (ex, el, ej))))
 
     -- ---- other kinds
 
@@ -161,3 +163,14 @@ module _ (e : Env) (file rows : List ℕ) (n : ℕ) (r m : List ℕ) where
       pub falls-above : 0x87 ≤ k → k < 0x100 → stepped (At (n + 1)) r m ≡ here
       unfolding familyOf
       falls-above a b = falls 0x87 0x100 tt a b w x y z
+
+-- a SWITCH, where the immediates are the bank's
+module _ (bank file rows : List ℕ) (n : ℕ) (r m : List ℕ) (p k : ℕ) (bytes : List ℕ)
+    (ep : p ≡ placeIn rows n) (eb : bytes ≡ drop p file) (ek : k ≡ getD bytes 0 0)
+    (o : List (List ℕ)) (eo : o ≡ sourcesOf (envIn bank) r bytes)
+  where
+    pub switch-by-bank : (immediates : List ℕ) (l j w : ℕ) → k ≡ 0x91 → l ≡ rowIn rows n .label → j ≡ rowIn rows n .jump → immediates ≡ part bank 4224 1024
+        → w ≡ walk (labelsOf immediates file (placeIn rows)) (rowIn rows) mostInstructions (sourceWord o 0 0) l j
+        → stepped (At w) r m ≡ step (machineOf (envIn bank) file (placeIn rows)) (rowIn rows) n (state r m)
+    switch-by-bank immediates l j w h el ej ei ew =
+        switch-step (envIn bank) file rows n r m p k bytes ep eb ek o eo immediates l j w h el ej ew (rw ei)

@@ -14,8 +14,9 @@ use Rattle.blocks.specs.Control.{Machine, Op, CASE, DEFAULT, caseOf, defaultAt,
 use Rattle.blocks.specs.Table.{Row, placeIn}
 use Rattle.blocks.specs.Run.{walk}
 use Rattle.blocks.proofs.Ops.{op-cases}
-use Rattle.machine.specs.Operands.{Env, State}
-use Rattle.machine.specs.Step.{env, labelsOf, machineOf}
+use Rattle.effects.specs.Destinations.{State}
+use Rattle.machine.specs.Operands.{Env, wordIn}
+use Rattle.machine.specs.Step.{labelsOf, machineOf}
 
 -- ---- one label
 
@@ -38,11 +39,11 @@ module _ (immediates file rows : List ℕ) (m : ℕ) where
   module _ (p b : ℕ) (ep : p ≡ placeIn rows m) (eb : b ≡ getD file p 0) where
     module _ (x w : ℕ) (case : b ≡ 0x92) (ew : w ≡ caseWord immediates file p) where
       pub case-found : w ≡ x → m + 1 ≡ cond (caseOf (labelsOf immediates file (placeIn rows)) x m) (suc m) 0
-      unfolding opOf
+      unfolding opOf caseWord
       case-found h = rw (← ep, ← eb, case, ← ew, eq-eqb w x h) (add-one m)
 
       pub case-differs : (w ≡ x → ⊥) → 0 ≡ cond (caseOf (labelsOf immediates file (placeIn rows)) x m) (suc m) 0
-      unfolding opOf
+      unfolding opOf caseWord
       case-differs h = rw (← ep, ← eb, case, ← ew, ne-eqb w x h)
 
     pub case-none : (x : ℕ) → (b ≡ 0x92 → ⊥) → 0 ≡ cond (caseOf (labelsOf immediates file (placeIn rows)) x m) (suc m) 0
@@ -91,8 +92,8 @@ module _ (M : Machine State) (T : ℕ → Row) (x : ℕ) where
       on false k = rw (one-less, eo, en) (rw (ne-eqb m 0 d, k) at e)
 
 -- only the immediates are looked at
-pub walk-labels : (e : Env) (file : List ℕ) (place : ℕ → ℕ) (T : ℕ → Row) (f x m other : ℕ)
-    → walk (labelsOf (e .immediates) file place) T f x m other ≡ walk (machineOf e file place) T f x m other
+pub walk-labels : (e : Env) (immediates : List ℕ) → e .immediates ≡ wordIn immediates → (file : List ℕ) (place : ℕ → ℕ) (T : ℕ → Row) (f x m other : ℕ)
+    → walk (labelsOf immediates file place) T f x m other ≡ walk (machineOf e file place) T f x m other
 unfolding walk
-walk-labels e file place T zero x m other = refl
-walk-labels e file place T (suc f) x m other = simp (walk-labels e file place T f)
+walk-labels e immediates same file place T zero x m other = refl
+walk-labels e immediates same file place T (suc f) x m other = rw same (simp (walk-labels e immediates same file place T f))

@@ -1,5 +1,3 @@
 pub mod Operands
-pub mod Memory
-pub mod Arithmetic
-pub mod Effect
+pub mod Bank
 pub mod Step

@@ -1,18 +1,24 @@
 -- One step: the machine that an instruction list is, for the run by the table (blocks' `step`).
 -- Assumes nothing.
 use Prim.Native.Nat.{ℕ}
-use mathlib.Core.List.{List, []}
+use mathlib.Core.Bool.{false}
+use mathlib.Core.List.{List}
 use lib.ListN.{getD, drop}
-use Rattle.format.specs.Fields.{caseWord}
+use Rattle.format.specs.Fields.{destinationAt, caseAt}
 use Rattle.blocks.specs.Control.{Machine}
 use Rattle.blocks.specs.Run.{Step}
 use Rattle.blocks.specs.declared.Next.{Next}
-use Rattle.machine.specs.Operands.{Env, State, declaredIn}
-use Rattle.machine.specs.Effect.{effect, sourcesOf, state, xOf}
+use Rattle.effects.specs.Destinations.{State}
+use Rattle.effects.specs.Effect.{familyOf, effectOf, state, xOf}
+use Rattle.machine.specs.Operands.{Env, wordIn, kindByte, sourcesOf}
 
-abbrev pub env : List ℕ → List ℕ → List ℕ → List ℕ → Env
-env inputs constants immediates declared =
-    record { inputs = inputs; constants = constants; immediates = immediates; declared = declaredIn declared }
+-- The effect of the instruction whose record has these bytes, and of the instruction at place p of the file.
+unfoldable pub recordEffect : Env → List ℕ → State → State
+recordEffect e bytes s =
+    effectOf (familyOf (kindByte bytes)) (kindByte bytes) (destinationAt bytes 1) (sourcesOf e (s .registers) bytes) s
+
+abbrev pub effect : Env → List ℕ → ℕ → State → State
+effect e file p s = recordEffect e (drop p file) s
 
 -- What a UIF or SWITCH looks at, src0.x.
 abbrev pub testOf : Env → List ℕ → List ℕ → ℕ
@@ -25,12 +31,15 @@ machineOf e file place =
       kind = λ n. getD file (place n) 0;
       effect = λ n s. effect e file (place n) s;
       test = λ n s. testOf e (s .registers) (drop (place n) file);
-      value = λ n. caseWord (e .immediates) file (place n);
+      value = λ n. e .immediates (caseAt file (place n));
     }
 
 -- The same with nothing but the immediates, for the walk along labels, which looks at kinds and the words of CASEs only.
 abbrev pub labelsOf : List ℕ → List ℕ → (ℕ → ℕ) → Machine State
-labelsOf immediates file place = machineOf (env [] [] immediates []) file place
+labelsOf immediates file place =
+    machineOf
+    (record { constants = λ k. 0; inputs = λ k. 0; immediates = wordIn immediates; declared = λ f i. false })
+    file place
 
 -- What a step leaves, as blocks' `step` has it.
 abbrev pub stepped : Next → List ℕ → List ℕ → Step State

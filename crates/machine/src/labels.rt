@@ -1,5 +1,5 @@
 // Where a SWITCH goes: the walk along its labels, which looks at all CASEs before it takes DEFAULT.
-use crate::operands::word_at;
+use effects::lent::word_at;
 use format::fields::byte_at;
 use format::fields::case_word;
 ghost use mathlib.Core.Path.{_≡_};

@@ -1,9 +1,6 @@
-// Instructions over lent words: operands, memory, results, effects, and the step that the run repeats.
+// Instructions over lent words: the bank, sources, labels, and the step that the run repeats.
 
-mod arithmetic;
-mod effect;
+pub mod bank;
 mod labels;
-mod memory;
 mod operands;
 pub mod step;
-mod wide;

@@ -1,19 +1,22 @@
 // One step: the instruction's effect and what comes next, by a match on the kind with ranges.
-use crate::effect::effect;
+use crate::bank;
+use crate::bank::Bank;
 use crate::labels::after_label;
 use crate::labels::jump_of;
 use crate::labels::label_of;
 use crate::labels::place_of;
 use crate::operands::read_sources;
 use blocks::Next;
+use effects::effect::effect;
 use format::fields::byte_at;
 use format::fields::destination_at;
 ghost use mathlib.Core.Path.{_≡_};
 ghost use lib.ListN.{drop};
 ghost use Rattle.blocks.specs.Table.{placeIn, rowIn};
 ghost use Rattle.blocks.specs.Run.{step as stepOf};
-ghost use Rattle.machine.specs.Effect.{state};
-ghost use Rattle.machine.specs.Step.{env, machineOf, stepped};
+ghost use Rattle.effects.specs.Effect.{state};
+ghost use Rattle.machine.specs.Bank.{envIn};
+ghost use Rattle.machine.specs.Step.{machineOf, stepped};
 
 // The bytes from a place on, none past the end.
 fn bytes_from(file: &[u8], at: usize) -> &[u8]
@@ -31,28 +34,17 @@ pub fn step(
     file: &[u8],
     rows: &[u32],
     n: u32,
-    inputs: &[u32],
-    constants: &[u32],
-    immediates: &[u32],
-    declared: &[u32],
+    bank: &Bank,
     registers: &mut [u32],
     memory: &mut [u32],
 ) -> Next
-    ensures { λ r. ⌜ stepped r (now (registers .exit)) (now (memory .exit)) ≡ stepOf (machineOf (env (now (inputs .entry)) (now (constants .entry)) (now (immediates .entry)) (now (declared .entry))) (now (file .entry)) (placeIn (now (rows .entry)))) (rowIn (now (rows .entry))) n (state (now (registers .entry)) (now (memory .entry))) ⌝ }
+    ensures { λ r. ⌜ stepped r (now (registers .exit)) (now (memory .exit)) ≡ stepOf (machineOf (envIn (now (bank .entry))) (now (file .entry)) (placeIn (now (rows .entry)))) (rowIn (now (rows .entry))) n (state (now (registers .entry)) (now (memory .entry))) ⌝ }
 {
     let after = n as usize + 1;
     let bytes = bytes_from(file, place_of(rows, n) as usize);
     let kind = byte_at(bytes, 0);
     let mut sources = [[0u32; 4]; 4];
-    read_sources(
-        bytes,
-        inputs,
-        constants,
-        immediates,
-        declared,
-        registers,
-        &mut sources,
-    );
+    read_sources(kind, bytes, bank, registers, &mut sources);
     let x = sources[0][0];
     match kind {
         0x10..=0x70 => {
@@ -72,7 +64,7 @@ pub fn step(
         0x91 => Next::At(after_label(
             file,
             rows,
-            immediates,
+            bank::immediates(bank),
             x,
             label_of(rows, n),
             jump_of(rows, n) as usize,

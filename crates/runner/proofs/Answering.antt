@@ -1,39 +1,37 @@
 -- What the two functions answer is what the definitions of the whole run and of preparing say, return by return.
 -- Assumes nothing.
-use mathlib.Core.Path.{_≡_, refl, sym, ap, _∙_, subst}
+use mathlib.Core.Path.{_≡_, refl, sym, ap, _∙_, fun-ext, subst}
 use mathlib.Core.Bool.{Bool, true, false, cond}
 use mathlib.Core.List.{List, [], _++_}
 use Prim.Native.Nat.{ℕ, _+_, _-_, _*_, _<_, _≤_}
 use native.Mathlib.Omega.{arith}
-use native.Mathlib.Nat.{min-eq-left, min-le-left}
-use borrow.Author.Tests.{lt-ltb, le-ltb, le-leb, ne-eqb, eq-eqb, ltb-false}
+use native.Mathlib.Nat.{min-le-left}
+use borrow.Author.Tests.{lt-ltb, le-ltb, le-leb, ne-eqb, ltb-true, ltb-false}
 use lib.Dec.{eqb, ltb, leb}
-use lib.ListN.{length, take, replicate, length-append, length-take, length-replicate}
-use lib.Seq.{sets}
+use lib.ListN.{length, take, replicate, length-append, length-take, length-replicate, getD-replicate, List·getD-append, List·getD-eq-default}
+use lib.Seq.{getD-append-add, take-all}
 use Rattle.format.specs.Fields.{caseWord}
 use Rattle.format.specs.Records.{longest}
 use Rattle.blocks.specs.Nesting.{accepts}
-use Rattle.blocks.specs.Prepared.{opFrom, tableWords, filled}
-use Rattle.blocks.specs.Reading.{Reading, out, ended, halted, reading}
-use Rattle.blocks.specs.Run.{run, mostInstructions}
+use Rattle.blocks.specs.Prepared.{opFrom, filled}
+use Rattle.blocks.specs.Reading.{Reading, reading}
+use Rattle.blocks.specs.Run.{mostInstructions}
 use Rattle.blocks.specs.Table.{rowIn, placeIn, rowWords}
 use Rattle.blocks.proofs.Correct.{Final, run-final}
 use Rattle.checker.specs.declared.Checked.{Checked}
-use Rattle.checker.specs.declared.Verdict.{Verdict}
 use Rattle.checker.specs.declared.Verdict.the-variants.{Accepted, Refused}
-use Rattle.checker.specs.declared.program.Program.{Program}
 use Rattle.checker.specs.Check.{accepted, refused, checkOf, programSeen, outcome, concluded, wordsAfter}
-use Rattle.checker.specs.Check as check
 use Rattle.checker.specs.Findings.{Seen}
 use Rattle.checker.specs.Sets.{isIn}
 use Rattle.checker.proofs.Followed.{followed}
-use Rattle.machine.specs.Effect.{state}
-use Rattle.machine.specs.Operands.{Env, State}
+use Rattle.effects.specs.Effect.{state}
+use Rattle.machine.specs.Bank.{envIn}
+use Rattle.machine.specs.Operands.{Env, declaredIn, wordIn}
 use Rattle.machine.specs.Step.{machineOf}
 use Rattle.runner.specs.declared.Outcome.{Outcome}
-use Rattle.runner.specs.Answers.{Answer, refusal, ready, end, halt, runAnswer, stepsOf, Result, after, prepareAfter}
-use Rattle.runner.specs.Steps.{reached, byRows, StaysInside, Came, Ready, seenOf, Taken, Ran}
-use Rattle.runner.specs.Whole.{askedIndirectly, placeOf, listsOf, envOf, programOf, preparedIn, prepareAccepted, prepareOf, workShort, lentRefusal, cleared, reported, carriedOut, runAccepted, runOf}
+use Rattle.runner.specs.Answers.{refusal, ready, runAnswer, stepsOf, after, prepareAfter}
+use Rattle.runner.specs.Steps.{reached, byRows, StaysInside, Came, MayRun}
+use Rattle.runner.specs.Whole.{askedIndirectly, placeOf, listsOf, envWith, envOf, programOf, preparedIn, prepareOf, workShort, lentRefusal, cleared, reported, carriedOut, runAccepted, runOf}
 use Rattle.runner.proofs.Demand.{run-reads, stays-inside}
 
 -- What the check says of the program that it takes.
@@ -92,74 +90,31 @@ steps-within b (Outcome.Ended steps) r′ m′ f = f
 steps-within b (Outcome.Halted steps next) r′ m′ f = f
 steps-within b (Outcome.Refused number place) r′ m′ f = absurd f
 
--- ---- The run of a program that the check took
+-- A word of a list of 0.
+zeros-are : (n k : ℕ) → wordIn (replicate n 0) k ≡ 0
+zeros-are n k = on (ltb k n) refl
+  where
+    on : (t : Bool) → ltb k n ≡ t → wordIn (replicate n 0) k ≡ 0
+    on true h = getD-replicate n k 0 0 (ltb-true k n h)
+    on false h = List·getD-eq-default (replicate n 0) 0 (omega (arith, ltb-false k n h, length-replicate {A = ℕ} n 0))
 
-module _ {p : Program} {words file : List ℕ} (taken : Taken p words file) (inputs constants registers work memory : List ℕ) where
-  abbrev seen : Seen
-  seen = seenOf p words
+-- Words with nothing but 0 after them.
+padded-words : (words front : List ℕ) → words ≡ front ++ replicate (1024 - length front) 0 → length front ≤ 1024 → wordIn (take 1024 words) ≡ wordIn front
+padded-words words front e short = fun-ext λ k. on k (ltb k (length front)) refl
+  where
+    whole : take 1024 words ≡ words
+    whole = take-all 1024 words (rw e (omega (arith, length-append front (replicate (1024 - length front) 0), length-replicate {A = ℕ} (1024 - length front) 0)))
 
-  program-follows : Follows seen file
-  program-follows = follows file seen (taken .is)
-
-  module _ (due : ℕ) (due-is : due ≡ lentRefusal (programSeen p [] []) inputs constants registers work memory) where
-    pub refused-for-lent : (budget : ℕ) → (due ≡ 0 → ⊥) → Ran p words file inputs constants registers work memory budget (Outcome.Refused due 0) registers work memory
-    unfolding runAccepted lentRefusal
-    refused-for-lent budget h = record { whole = rw (← due-is, ne-eqb due 0 h); within = omega arith }
-
-    module _ (none : due ≡ 0) where
-      fits : (1156 ≤ length registers) × (rowWords * p .instructions ≤ length work)
-      unfolding lentRefusal
-      fits = lent-enough seen inputs constants registers work memory (sym due-is ∙ none)
-
-      pub registers-enough : 1156 ≤ length registers
-      registers-enough = fits .0
-
-      -- The table stands in the words w, and the registers are cleared to cl.
-      module _ {cl w : List ℕ} (made : Ready p file registers work cl w) where
-        abbrev asked : ℕ → ℕ → Bool
-        asked = askedIndirectly (isIn (p .declared))
-
-        w-prepared : w ≡ preparedIn seen file work
-        w-prepared = made .table ∙ table-made seen file work program-follows (fits .1)
-
-        pub loop-stays : (st : State) → StaysInside file w inputs constants words asked st
-        unfolding byRows
-        loop-stays st =
-            record {
-              below =
-                  rw w-prepared
-                  (stays-inside seen file (program-follows .few) (program-follows .nests) work (fits .1)
-                  (envOf seen inputs constants) refl st);
-            }
-
-        reads : (budget : ℕ) (st : State)
-            → byRows file w inputs constants words asked budget st ≡ reading (programOf seen file inputs constants) budget (listsOf seen file) st
-        unfolding byRows
-        reads budget st =
-            rw w-prepared
-            (run-reads seen file (program-follows .few) (program-follows .nests) work (fits .1) (envOf seen inputs constants) refl
-            budget st)
-
-        module _ {budget : ℕ} {r : Outcome} {r′ m′ : List ℕ}
-            (came : Came file w inputs constants words asked budget (state cl memory) r (state r′ m′))
-          where
-            final : Final budget (reached r (state r′ m′))
-            unfolding byRows
-            final =
-                rw (came .is)
-                (run-final (machineOf (envOf seen inputs constants) file (placeIn w)) (rowIn w) budget budget 0 0 (state cl memory)
-                (omega arith))
-
-            pub is-carried-out : Ran p words file inputs constants registers work memory budget r r′ w m′
-            unfolding runAccepted lentRefusal carriedOut
-            is-carried-out =
-                record {
-                  whole =
-                      rw (← due-is, none)
-                      (reported-is budget r w r′ m′ final ∙ ap (reported w) (came .is ∙ reads budget (state cl memory))
-                      ∙ rw (w-prepared, made .clear));
-                  within = steps-within budget r r′ m′ final;
-                }
+    on : (k : ℕ) (t : Bool) → ltb k (length front) ≡ t → wordIn (take 1024 words) k ≡ wordIn front k
+    on k true h = rw (whole, e) (List·getD-append front (replicate (1024 - length front) 0) 0 k (ltb-true k (length front) h))
+    on k false h =
+        let past : length front ≤ k = ltb-false k (length front) h in
+        let there : length front + (k - length front) ≡ k = omega arith in
+        rw (whole, e)
+        (ap (wordIn (front ++ replicate (1024 - length front) 0)) (sym there)
+        ∙ getD-append-add front (replicate (1024 - length front) 0) (k - length front) 0
+        ∙ zeros-are (1024 - length front) (k - length front)
+        ∙ sym (List·getD-eq-default front 0 past))
 
 -- ---- The check's answer, and the program where there is one
 
@@ -169,34 +124,6 @@ module _ (file : List ℕ) (c : Checked) (words : List ℕ) (said : outcome c wo
 
   is-accepted : (n : ℕ) → c .verdict ≡ Accepted n → checkOf file ≡ accepted (programSeen (c .program) words [])
   is-accepted n e = sym said ∙ ap (λ v. concluded v (programSeen (c .program) words [])) e
-
-  pub is-taken : (n : ℕ) → c .verdict ≡ Accepted n → Taken (c .program) (take (4 * c .program .immediates) words) file
-  is-taken n e = record { is = is-accepted n e }
-
-  -- The words lent to the check are still 1,024.
-  module _ (before : List ℕ)
-      (after-check : words ≡ wordsAfter (checkOf file) before)
-      (few : c .program .immediates ≤ 256)
-      (long : length before ≡ 1024)
-    where
-      words-by : (v : Verdict) → c .verdict ≡ v → length words ≡ 1024
-      words-by (Accepted n) e =
-          let s : List ℕ = take (4 * c .program .immediates) words in
-          let w : words ≡ take (4 * c .program .immediates) words ++ replicate (1024 - length (take (4 * c .program .immediates) words)) 0 =
-          after-check ∙ ap (λ o. wordsAfter o before) (is-accepted n e) in
-          ap length w
-          ∙ simp (length-append, length-replicate)
-          (omega (arith, length-take (4 * c .program .immediates) words, min-le-left (4 * c .program .immediates) (length words)))
-      words-by (Refused number place) e = ap length (after-check ∙ ap (λ o. wordsAfter o before) (is-refused number place e)) ∙ long
-
-      words-are-1024 : length words ≡ 1024
-      words-are-1024 = words-by (c .verdict) refl
-
-      pub words-held : 4 * c .program .immediates ≤ length words
-      words-held = omega (arith, words-are-1024)
-
-      pub words-long : 4 * c .program .immediates ≡ length (take (4 * c .program .immediates) words)
-      words-long = sym (length-take (4 * c .program .immediates) words ∙ min-eq-left words-held)
 
   -- ---- Preparing alone
 
@@ -221,17 +148,88 @@ module _ (file : List ℕ) (c : Checked) (words : List ℕ) (said : outcome c wo
 
   -- ---- The run
 
-  module _ (inputs constants registers work memory : List ℕ) (budget : ℕ) where
-    pub run-refused : (number place : ℕ) → c .verdict ≡ Refused number place → after (refusal number place) registers work memory ≡ runOf file inputs constants registers work memory budget
+  module _ (inputs constants registers work memory : List ℕ) where
+    pub run-refused : (budget number place : ℕ) → c .verdict ≡ Refused number place → after (refusal number place) registers work memory ≡ runOf file inputs constants registers work memory budget
     unfolding runOf runAccepted
-    run-refused number place e = rw (is-refused number place e)
+    run-refused budget number place e = rw (is-refused number place e)
 
-    module _ (n : ℕ) (e : c .verdict ≡ Accepted n) (r : Outcome) (r′ w m′ : List ℕ)
-        (ran : Ran (c .program) (take (4 * c .program .immediates) words) file inputs constants registers work memory budget r r′ w m′)
+    module _ (n : ℕ) (e : c .verdict ≡ Accepted n) (due : ℕ)
+        (due-is : due ≡ lentRefusal (programSeen (c .program) [] []) inputs constants registers work memory)
       where
-        pub run-whole : after (runAnswer r) r′ w m′ ≡ runOf file inputs constants registers work memory budget
-        unfolding runOf
-        run-whole = ran .whole ∙ rw (is-accepted n e)
+        abbrev seen : Seen
+        seen = programSeen (c .program) words []
 
-        pub run-within : stepsOf (runAnswer r) ≤ budget
-        run-within = ran .within
+        accepts-it : checkOf file ≡ accepted seen
+        accepts-it = is-accepted n e
+
+        pub lent-refused : (budget : ℕ) → (due ≡ 0 → ⊥) → after (refusal due 0) registers work memory ≡ runOf file inputs constants registers work memory budget
+        unfolding runOf runAccepted lentRefusal
+        lent-refused budget h = rw (accepts-it, ← due-is, ne-eqb due 0 h)
+
+        module _ (none : due ≡ 0) (before bank bits : List ℕ) (few : c .program .immediates ≤ 256)
+            (padded : words ≡ wordsAfter (checkOf file) before)
+            (asked : declaredIn (take 40 bits) ≡ askedIndirectly (isIn (c .program .declared)))
+            (gathered : envIn bank ≡ envWith (declaredIn (take 40 bits)) (take 1024 words) inputs constants)
+          where
+            taken : Follows seen file
+            taken = follows file seen accepts-it
+
+            fits : (1156 ≤ length registers) × (rowWords * c .program .instructions ≤ length work)
+            unfolding lentRefusal
+            fits = lent-enough seen inputs constants registers work memory (sym due-is ∙ none)
+
+            immediates-are : wordIn (take 1024 words) ≡ wordIn (seen .immediates)
+            immediates-are =
+                padded-words words (seen .immediates) (padded ∙ ap (λ o. wordsAfter o before) accepts-it)
+                (omega (arith, length-take (4 * c .program .immediates) words, min-le-left (4 * c .program .immediates) (length words)))
+
+            env-is : envIn bank ≡ envOf seen inputs constants
+            env-is = gathered ∙ rw (asked, immediates-are)
+
+            -- The table stands in the words w.
+            module _ (w : List ℕ) (made : w ≡ filled file (c .program .start) (c .program .instructions) work) where
+              w-prepared : w ≡ preparedIn seen file work
+              w-prepared = made ∙ table-made seen file work taken (fits .1)
+
+              stays : StaysInside file w (envOf seen inputs constants) (state (cleared registers) memory)
+              unfolding byRows
+              stays =
+                  record {
+                    below =
+                        rw w-prepared
+                        (stays-inside seen file (taken .few) (taken .nests) work (fits .1) (envOf seen inputs constants) refl
+                        (state (cleared registers) memory));
+                  }
+
+              pub may-run : MayRun file w bank registers memory
+              may-run =
+                  record {
+                    enough = fits .0;
+                    inside = subst (λ (e : Env). StaysInside file w e (state (cleared registers) memory)) (sym env-is) stays;
+                  }
+
+              module _ (budget : ℕ) (r : Outcome) (r′ m′ : List ℕ)
+                  (came : Came file w (envIn bank) budget (state (cleared registers) memory) r (state r′ m′))
+                where
+                  reads : reached r (state r′ m′) ≡ reading (programOf seen file inputs constants) budget (listsOf seen file) (state (cleared registers) memory)
+                  unfolding byRows
+                  reads =
+                      came .is
+                      ∙ ap (λ (e : Env). byRows file w e budget (state (cleared registers) memory)) env-is
+                      ∙ rw w-prepared
+                      (run-reads seen file (taken .few) (taken .nests) work (fits .1) (envOf seen inputs constants) refl budget
+                      (state (cleared registers) memory))
+
+                  final : Final budget (reached r (state r′ m′))
+                  unfolding byRows
+                  final =
+                      rw (came .is)
+                      (run-final (machineOf (envIn bank) file (placeIn w)) (rowIn w) budget budget 0 0 (state (cleared registers) memory)
+                      (omega arith))
+
+                  pub carried-out : (after (runAnswer r) r′ w m′ ≡ runOf file inputs constants registers work memory budget) × (stepsOf (runAnswer r) ≤ budget)
+                  unfolding runOf runAccepted lentRefusal carriedOut
+                  carried-out = (
+                    reported-is budget r w r′ m′ final ∙ ap (reported w) reads ∙ rw (accepts-it, ← due-is, none, w-prepared),
+                    steps-within budget r r′ m′ final,
+                  )

@@ -16,9 +16,11 @@ use Rattle.blocks.specs.Table.{firstLabel, rows, table, wordsOf}
 use Rattle.checker.specs.Check.{walk, checkOf}
 use Rattle.checker.specs.Findings.{withDeclaration, declarationFinding, withImmediate, immediateFinding, sourceFound, operandsFound, withInstruction, instructionFinding, recordFinding}
 use Rattle.checker.specs.Rules.{destinationRule, sourceRule, allOperands, declarationRule}
-use Rattle.machine.specs.Operands.{components, fourAt, registerWords, registerOf, taken, sourceOf, ifMasked, masked, firstWord, writtenAt}
-use Rattle.machine.specs.Arithmetic.{unary, binary, ternary, resultWord, resultWords, wide, halves, countOr, wideOf}
-use Rattle.machine.specs.Effect.{firstSource, readAt, nthSource, sourcesOf, familyOf, recordEffect}
+use Rattle.effects.specs.Destinations.{components, ifMasked, masked, firstWord, writtenAt}
+use Rattle.effects.specs.Arithmetic.{unary, binary, ternary, resultWord, resultWords, wide, halves, countOr, wideOf}
+use Rattle.effects.specs.Effect.{familyOf}
+use Rattle.machine.specs.Operands.{fourAt, registerWords, registerOf, taken, sourceOf, firstSource, readAt, nthSource, sourcesOf}
+use Rattle.machine.specs.Step.{recordEffect}
 use Rattle.runner.specs.Answers.{Answer, refusal, ready, end, halt, Result}
 use Rattle.runner.specs.Whole.{lentRefusal, cleared, carriedOut, runAccepted, runOf}
 

@@ -21,7 +21,8 @@ use Rattle.blocks.proofs.Inside.{HaltsBelow, halts-inside}
 use Rattle.blocks.proofs.Sim.{Alike}
 use Rattle.blocks.proofs.Words.{length-words, words-place, words-row}
 use Rattle.checker.specs.Findings.{Seen}
-use Rattle.machine.specs.Operands.{Env, State}
+use Rattle.effects.specs.Destinations.{State}
+use Rattle.machine.specs.Operands.{Env, wordIn}
 use Rattle.machine.specs.Step.{machineOf}
 use Rattle.runner.specs.Whole.{placeOf, listsOf, preparedIn}
 
@@ -66,7 +67,7 @@ module _ (s : Seen) (file : List ℕ)
 
       -- ---- The run
 
-      module _ (e : Env) (same : e .immediates ≡ s .immediates) where
+      module _ (e : Env) (same : e .immediates ≡ wordIn (s .immediates)) where
         abbrev byWords : Machine State
         byWords = machineOf e file (placeIn (preparedIn s file work))
 
@@ -84,6 +85,7 @@ module _ (s : Seen) (file : List ℕ)
             }
 
         nested : accepts (opAt byFile) (byFile .value) (s .instructions) 0 [] ≡ true
+        unfolding caseWord
         nested = rw same nests
 
         pub run-reads : (budget : ℕ) (st : State)

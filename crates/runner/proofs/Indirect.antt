@@ -9,7 +9,7 @@ use native.Mathlib.Nat.{zero-div, zero-mod, mul-add-div-right, mul-add-mod-self-
 use borrow.Author.Tests.{ltb-true, ltb-false, eqb-true}
 use lib.Dec.{eqb, ltb}
 use lib.ListN.{length, getD, take, List·getD-append, List·getD-eq-default}
-use lib.Seq.{getD-append-add}
+use lib.Seq.{getD-append-add, take-all}
 use Rattle.checker.specs.declared.sets.Declared.{Declared}
 use Rattle.checker.specs.Sets.{isIn}
 use Rattle.checker.specs.Sets as sets
@@ -59,5 +59,6 @@ module _ (d : Declared) (lc : length (d .consts) ≡ 32) (lt : length (d .temps)
       → length words ≡ 40
       → take i words ≡ take i ((d .consts) ++ (d .temps))
       → 40 ≤ i
-      → declaredIn words ≡ askedIndirectly (isIn d)
-  copied-is words i long room done h = ap declaredIn (copy-end ((d .consts) ++ (d .temps)) words i 0 long room done h) ∙ asked-is
+      → declaredIn (take 40 words) ≡ askedIndirectly (isIn d)
+  copied-is words i long room done h =
+      ap declaredIn (take-all 40 words (omega arith) ∙ copy-end ((d .consts) ++ (d .temps)) words i 0 long room done h) ∙ asked-is

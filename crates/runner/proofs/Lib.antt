@@ -2,6 +2,7 @@ pub mod Loop
 pub mod Copies
 pub mod Due
 pub mod Demand
+pub mod Gather
 pub mod Indirect
 pub mod Answering
 mod Cases

@@ -2,7 +2,6 @@
 -- more is one budget more.
 -- Assumes nothing.
 use mathlib.Core.Path.{_≡_, refl, sym, ap, _∙_}
-use mathlib.Core.Bool.{Bool}
 use mathlib.Core.List.{List}
 use Prim.Native.Nat.{ℕ, suc, _+_, _-_, _^_, _<_, _≤_}
 use native.Mathlib.Omega.{arith}
@@ -14,21 +13,24 @@ use Rattle.blocks.specs.Reading.{Reading, ended, halted}
 use Rattle.blocks.specs.Run.{mostInstructions, Step, follow, step, run}
 use Rattle.blocks.specs.Table.{Row, rowIn, placeIn}
 use Rattle.blocks.proofs.Correct.{goOn, run-on}
-use Rattle.machine.specs.Operands.{State, declaredIn}
-use Rattle.machine.specs.Effect.{state}
-use Rattle.machine.specs.Step.{env, machineOf, stepped}
+use Rattle.effects.specs.Destinations.{State}
+use Rattle.effects.specs.Effect.{state}
+use Rattle.machine.specs.Bank.{envIn}
+use Rattle.machine.specs.Operands.{Env}
+use Rattle.machine.specs.Step.{machineOf, stepped}
 use Rattle.runner.specs.declared.Outcome.{Outcome}
-use Rattle.runner.specs.Steps.{byRows, StaysInside, Came}
+use Rattle.runner.specs.Steps.{byRows, StaysInside, Came, MayRun}
+use Rattle.runner.specs.Whole.{cleared}
 
-module _ (file rows inputs constants immediates declared : List ℕ) (s₀ : State) where
+module _ (file rows : List ℕ) (e : Env) (s₀ : State) where
   abbrev M : Machine State
-  M = machineOf (env inputs constants immediates declared) file (placeIn rows)
+  M = machineOf e file (placeIn rows)
 
   abbrev T : ℕ → Row
   T = rowIn rows
 
   abbrev after : ℕ → Reading State
-  after c = byRows file rows inputs constants immediates (declaredIn declared) c s₀
+  after c = byRows file rows e c s₀
 
   pub none-yet : after 0 ≡ halted 0 0 s₀
   unfolding byRows run
@@ -39,7 +41,7 @@ module _ (file rows inputs constants immediates declared : List ℕ) (s₀ : Sta
   in-parts a b = run-on M T a b 0 0 s₀
 
   -- The number of the next instruction fits a word.
-  pub fits-32 : (c n : ℕ) (s : State) → StaysInside file rows inputs constants immediates (declaredIn declared) s₀ → after c ≡ halted n c s → n < 2 ^ 32
+  pub fits-32 : (c n : ℕ) (s : State) → StaysInside file rows e s₀ → after c ≡ halted n c s → n < 2 ^ 32
   fits-32 c n s inside there =
       let below : n < mostInstructions = inside .below c n s there in
       omega arith
@@ -57,29 +59,30 @@ module _ (file rows inputs constants immediates declared : List ℕ) (s₀ : Sta
 
       pub goes-on : (m : ℕ) → x ≡ At m → after (c + 1) ≡ halted m (c + 1) (state r′ q′)
       unfolding run
-      goes-on m e =
-          one-more ∙ ap (λ y. follow (run M T 0 (suc c)) (suc c) y (state r′ q′)) e
+      goes-on m ex =
+          one-more ∙ ap (λ y. follow (run M T 0 (suc c)) (suc c) y (state r′ q′)) ex
           ∙ ap (λ k. halted m k (state r′ q′)) (sym (add-one c))
 
-      pub comes-to-end : (b : ℕ) → x ≡ Ended → c < b → Came file rows inputs constants immediates (declaredIn declared) b s₀ (Outcome.Ended (c + 1)) (state r′ q′)
-      comes-to-end b e h =
+      pub comes-to-end : (b : ℕ) → x ≡ Ended → c < b → Came file rows e b s₀ (Outcome.Ended (c + 1)) (state r′ q′)
+      comes-to-end b ex h =
           let all : b ≡ c + 1 + (b - (c + 1)) = omega arith in
           let stop : after (c + 1) ≡ ended (c + 1) (state r′ q′) =
-          one-more ∙ ap (λ y. follow (run M T 0 (suc c)) (suc c) y (state r′ q′)) e
+          one-more ∙ ap (λ y. follow (run M T 0 (suc c)) (suc c) y (state r′ q′)) ex
           ∙ ap (λ k. ended k (state r′ q′)) (sym (add-one c)) in
           record { is = sym (ap after all ∙ in-parts (c + 1) (b - (c + 1)) ∙ ap (goOn M T (b - (c + 1))) stop) }
 
-  pub is-spent : (c n b : ℕ) (s : State) → after c ≡ halted n c s → c ≤ b → b ≤ c → Came file rows inputs constants immediates (declaredIn declared) b s₀ (Outcome.Halted c n) s
+  pub is-spent : (c n b : ℕ) (s : State) → after c ≡ halted n c s → c ≤ b → b ≤ c → Came file rows e b s₀ (Outcome.Halted c n) s
   is-spent c n b s there h k =
-      let e : c ≡ b = omega arith in
-      record { is = sym there ∙ ap after e }
+      let all : c ≡ b = omega arith in
+      record { is = sym there ∙ ap after all }
 
--- What is asked of the declared words may be said by the sets that they stand for.
-module _ (file rows inputs constants immediates bits : List ℕ) (asked : ℕ → ℕ → Bool) (same : declaredIn bits ≡ asked) where
-  pub stays-asked : (s₀ : State) → StaysInside file rows inputs constants immediates asked s₀ → StaysInside file rows inputs constants immediates (declaredIn bits) s₀
-  stays-asked s₀ h = rw same h
+-- ---- From cleared registers
 
-  pub came-asked : (budget : ℕ) (s₀ s : State) (r : Outcome)
-      → Came file rows inputs constants immediates (declaredIn bits) budget s₀ r s
-      → Came file rows inputs constants immediates asked budget s₀ r s
-  came-asked budget s₀ s r h = rw same at h
+module _ (file rows bank registers memory cl : List ℕ) (clear : cl ≡ cleared registers) where
+  pub may-carry : MayRun file rows bank registers memory → StaysInside file rows (envIn bank) (state cl memory)
+  may-carry h = rw clear (h .inside)
+
+  pub came-clear : (budget : ℕ) (r : Outcome) (s : State)
+      → Came file rows (envIn bank) budget (state cl memory) r s
+      → Came file rows (envIn bank) budget (state (cleared registers) memory) r s
+  came-clear budget r s h = rw clear at h

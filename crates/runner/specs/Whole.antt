@@ -4,7 +4,7 @@ use Prim.Native.Nat.{ℕ, _*_}
 use mathlib.Core.Bool.{Bool, cond, _&&_, _||_}
 use mathlib.Core.List.{List, _++_}
 use lib.Dec.{eqb, ltb}
-use lib.ListN.{length, drop, replicate}
+use lib.ListN.{length, take, drop, replicate}
 use lib.Seq.{sets}
 use Rattle.format.specs.Records.{placeFrom}
 use Rattle.blocks.specs.Control.{Machine}
@@ -14,7 +14,8 @@ use Rattle.blocks.specs.Prepared.{opFrom, tableWords}
 use Rattle.blocks.specs.Table.{rowWords}
 use Rattle.checker.specs.Findings.{Seen}
 use Rattle.checker.specs.Check.{Outcome, accepted, refused, checkOf}
-use Rattle.machine.specs.Operands.{Env, State}
+use Rattle.effects.specs.Destinations.{State}
+use Rattle.machine.specs.Operands.{Env, wordIn}
 use Rattle.machine.specs.Step.{machineOf}
 use Rattle.runner.specs.Answers.{Answer, refusal, ready, end, halt, Result, after, Preparation, prepareAfter}
 
@@ -31,14 +32,18 @@ listsOf s file = nestedLists (opFrom file (s .start)) (s .instructions)
 abbrev pub askedIndirectly : (ℕ → ℕ → Bool) → ℕ → ℕ → Bool
 askedIndirectly declared f i = (eqb f 1 || eqb f 4) && declared f i
 
-abbrev pub envOf : Seen → List ℕ → List ℕ → Env
-envOf s inputs constants =
+-- "1 CONST 0-1023, 2 IN 0-31" (01, Register files): of what is lent, no more words than these registers have are read.
+abbrev pub envWith : (ℕ → ℕ → Bool) → List ℕ → List ℕ → List ℕ → Env
+envWith declared immediates inputs constants =
     record {
-      inputs = inputs;
-      constants = constants;
-      immediates = s .immediates;
-      declared = askedIndirectly (s .declared);
+      constants = wordIn (take 4096 constants);
+      inputs = wordIn (take 128 inputs);
+      immediates = wordIn immediates;
+      declared = declared;
     }
+
+abbrev pub envOf : Seen → List ℕ → List ℕ → Env
+envOf s inputs constants = envWith (askedIndirectly (s .declared)) (s .immediates) inputs constants
 
 abbrev pub programOf : Seen → List ℕ → List ℕ → List ℕ → Machine State
 programOf s file inputs constants = machineOf (envOf s inputs constants) file (placeOf s file)

@@ -2,8 +2,10 @@
 use blocks::table::ROW_WORDS;
 use blocks::table::fill;
 use checker::examine;
+use checker::program::Program;
 ghost use mathlib.Core.Path.{_≡_};
 ghost use Prim.Native.Nat.{_≤_};
+ghost use Rattle.blocks.specs.Prepared.{filled};
 ghost use Rattle.runner.specs.Answers.{prepareAnswer, prepareAfter, runAnswer, after, stepsOf};
 ghost use Rattle.runner.specs.Whole.{prepareOf, runOf};
 
@@ -33,6 +35,18 @@ pub enum Outcome {
     Refused(u8, u32),
 }
 
+// Writes the table of a program that the check took to the working words.
+fn write_table(file: &[u8], program: Program, work: &mut [u32])
+    ensures { λ _. ⌜ now (work .exit) ≡ filled (now (file .entry)) (program .start) (program .instructions) (now (work .entry)) ⌝ }
+{
+    fill(
+        file,
+        program.start as usize,
+        program.instructions as usize,
+        work,
+    );
+}
+
 // Checks a file and writes its table to the working words.
 pub fn prepare(file: &[u8], work: &mut [u32]) -> Prepared
     ensures { λ r. ⌜ prepareAfter (prepareAnswer r) (now (work .exit)) ≡ prepareOf (now (file .entry)) (now (work .entry)) ⌝ }
@@ -47,12 +61,7 @@ pub fn prepare(file: &[u8], work: &mut [u32]) -> Prepared
             if work.len() < ROW_WORDS * program.instructions as usize {
                 return Prepared::Refused(23, 0);
             }
-            fill(
-                file,
-                program.start as usize,
-                program.instructions as usize,
-                work,
-            );
+            write_table(file, program, work);
             Prepared::Ready(program.instructions)
         }
     }
@@ -74,21 +83,19 @@ pub fn run(
     let mut immediates = [0u32; 1024];
     let checked = examine(file, &mut immediates);
     let program = checked.program;
-    let count = 4 * program.immediates as usize;
-    let words = &immediates[..count];
     let verdict = checked.verdict;
     match verdict {
         Verdict::Refused(number, place) => Outcome::Refused(number, place),
-        Verdict::Accepted(_) => steps::run_accepted(
-            file,
-            program,
-            words,
-            inputs,
-            constants,
-            registers,
-            work,
-            memory,
-            budget,
-        ),
+        Verdict::Accepted(_) => {
+            let number = lent::refusal(program, inputs, constants, registers, work, memory);
+            if number != 0 {
+                return Outcome::Refused(number, 0);
+            }
+            let declared = program.declared;
+            let bits = lent::declared_words(declared);
+            let bank = lent::gather(&bits, &immediates, inputs, constants);
+            write_table(file, program, work);
+            steps::run_rows(file, work, &bank, registers, memory, budget)
+        }
     }
 }

@@ -9,14 +9,8 @@ pub prepare-spec : {M : Type 1} → statement M
 prepare-spec =
     tie.close
     (tie.spec
-    (search needs)
-    (search needs)
-    (search needs)
-    (search needs)
-    (search needs)
+    (search needs) (search needs) (search needs) (search needs) (search needs)
     (λ c. search (needs, prepare-short))
-    (search needs)
-    (search needs)
     (search needs)
     (λ c. search (needs, prepare-refused))
     (search needs)

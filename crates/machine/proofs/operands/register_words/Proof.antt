@@ -8,7 +8,8 @@ pub register-words-spec : {M : Type 1} → statement M
 register-words-spec =
     tie.close
     (tie.spec
-    (search needs) (search needs) (search needs) (search needs) (search needs) (search needs)
+    (search needs) (search needs) (search needs) (search needs) (search needs) (search needs) (search needs)
+    (search needs) (search needs)
     (λ c. search (needs, register-const))
     (λ c. search (needs, register-in))
     (λ c. search (needs, register-temp))

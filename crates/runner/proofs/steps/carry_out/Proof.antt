@@ -5,23 +5,22 @@ use Prim.Native.Nat.{ℕ, _-_, _≤_}
 use borrow.Author.Needs.{needs}
 use lib.ListN.{length}
 use Rattle.blocks.specs.Reading.{halted}
-use Rattle.machine.specs.Effect.{state}
-use Rattle.machine.specs.Operands.{declaredIn}
+use Rattle.effects.specs.Effect.{state}
+use Rattle.machine.specs.Bank.{envIn}
 use Rattle.runner.specs.Steps.{byRows}
 use Rattle.runner.proofs.Loop.{none-yet, fits-32, goes-on, comes-to-end, is-spent}
 use Rattle.runner.proofs.steps.carry_out.Statement.{statement}
 use Rattle.runner.proofs.steps.carry_out.Tie as tie
 
 abbrev Inv-loop : tie.InvT-loop
-Inv-loop file rows inputs constants immediates declared registers₀ memory₀ budget steps₀ n₀ registers memory steps n =
+Inv-loop file rows bank registers₀ memory₀ budget steps₀ n₀ registers memory steps n =
     (steps ≤ budget)
     × (length registers ≡ length registers₀)
     × (length memory ≡ length memory₀)
-    × (byRows file rows inputs constants immediates (declaredIn declared) steps (state registers₀ memory₀) ≡ halted n steps (state registers memory))
+    × (byRows file rows (envIn bank) steps (state registers₀ memory₀) ≡ halted n steps (state registers memory))
 
 abbrev μ-loop : tie.MeasureT-loop
-μ-loop file rows inputs constants immediates declared registers₀ memory₀ budget steps₀ n₀ registers memory steps n =
-    budget - steps
+μ-loop file rows bank registers₀ memory₀ budget steps₀ n₀ registers memory steps n = budget - steps
 
 pub carry-out-spec : {M : Type 1} → statement M
 carry-out-spec =

@@ -1,0 +1,99 @@
+-- Families of instructions: an arm of a match on the kind is the family's table at that kind, and the default arm is met by
+-- none of them.
+-- Assumes nothing.
+use Rattle.effects.specs.Arithmetic.{countOr, halves, pair, wide, wideOf, wideUnary, wideUnaryOf, resultWord}
+use Rattle.format.specs.Kinds.{within}
+use Prim.Native.Nat.{_+_, _<_, _≤_, suc, zero, ℕ}
+use mathlib.Core.Path.{_≡_, refl}
+use mathlib.Core.Bool.{Bool, cond, false, not, true}
+use mathlib.Core.List.{List}
+use native.Mathlib.Omega.{arith}
+use native.Mathlib.Nat.{add-suc, add-zero, le-of-suc-le-suc}
+use borrow.Author.Tests.{le-leb, leb-true, lt-leb, ne-eqb}
+use lib.Dec.{leb}
+use lib.Arith.{lt-of-le-ne}
+use lib.ListN.{getD}
+
+-- ---- arms
+
+pub arm₁ : (f : ℕ → ℕ → ℕ) (n k a r : ℕ) → k ≡ n → r ≡ f n a → r ≡ f k a
+arm₁ f n k a r h e = rw h e
+
+pub arm₂ : (f : ℕ → ℕ → ℕ → ℕ) (n k a b r : ℕ) → k ≡ n → r ≡ f n a b → r ≡ f k a b
+arm₂ f n k a b r h e = rw h e
+
+pub arm-word : (n k a b c d r : ℕ) → k ≡ n → r ≡ resultWord n a b c d → r ≡ resultWord k a b c d
+arm-word n k a b c d r h e = rw h e
+
+-- a comparison's flag
+module _ (t u : Bool) (r : ℕ) (e : t ≡ u) where
+  pub flagged : r ≡ cond t 4294967295 0 → r ≡ cond u 4294967295 0
+  flagged h = rw (← e) h
+
+  pub flagged-not : r ≡ cond (not t) 4294967295 0 → r ≡ cond (not u) 4294967295 0
+  flagged-not h = rw (← e) h
+
+-- what the default arm knows beside P, where the arms before it are the n numbers from lo on
+abbrev pub AvoidsAlso : Type 0 → ℕ → ℕ → ℕ → Type 0
+AvoidsAlso P lo zero k = P
+AvoidsAlso P lo (suc n) k = AvoidsAlso P lo n k × (k ≡ lo + n → ⊥)
+
+abbrev pub Avoids : ℕ → ℕ → ℕ → Type 0
+Avoids = AvoidsAlso (Unit {0})
+
+module _ (P : Type 0) (lo : ℕ) where
+  also : (n k : ℕ) → AvoidsAlso P lo n k → P
+  also zero k a = a
+  also (suc n) k a = also n k (a .0)
+
+  avoids : (n k : ℕ) → AvoidsAlso P lo n k → lo ≤ k → k < lo + n → ⊥
+  avoids zero k a l h = omega (arith, add-zero lo)
+  avoids (suc n) k a l h = avoids n k (a .0) l (lt-of-le-ne (le-of-suc-le-suc (rw add-suc at h)) (a .1))
+
+  outside : (n k : ℕ) → AvoidsAlso P lo (suc n) k → within lo (lo + n) k ≡ false
+  outside n k a = on (leb lo k) refl (leb k (lo + n)) refl
+    where
+      on : (t : Bool) → leb lo k ≡ t → (u : Bool) → leb k (lo + n) ≡ u → within lo (lo + n) k ≡ false
+      on true e true e′ =
+          let below : k < lo + suc n = omega (arith, leb-true k (lo + n) e′) in
+          absurd (avoids (suc n) k a (leb-true lo k e) below)
+      on true e false e′ = rw (e, e′)
+      on false e u e′ = rw e
+
+pub avoids-all : (lo n k : ℕ) → Avoids lo n k → lo ≤ k → k < lo + n → ⊥
+avoids-all lo n k = avoids (Unit {0}) lo n k
+
+-- a kind that none of the four groups of results on words has
+pub no-word : (k a b c d : ℕ) → AvoidsAlso (AvoidsAlso (AvoidsAlso (Avoids 0x10 11 k) 0x20 24 k) 0x60 4 k) 0x70 1 k → 0 ≡ resultWord k a b c d
+unfolding resultWord
+no-word k a b c d h =
+    simp (outside (Unit {0}) 0x10 10 k (also _ 0x20 24 k (also _ 0x60 4 k (h .0))), outside _ 0x20 23 k (also _ 0x60 4 k (h .0)), outside _ 0x60 3 k (h .0), ne-eqb k 0x70 (h .1))
+
+-- ---- 64-bit values
+
+module _ (k n v : ℕ) where
+  pub count-below : k < 0x4A → v ≡ countOr k n v
+  unfolding countOr
+  count-below a = simp (lt-leb 0x4A k a)
+
+  pub count-in : 0x4A ≤ k → k ≤ 0x4C → n ≡ countOr k n v
+  unfolding countOr
+  count-in a b = simp (le-leb 0x4A k a, le-leb k 0x4C b)
+
+  pub count-above : 0x4A ≤ k → 0x4C < k → v ≡ countOr k n v
+  unfolding countOr
+  count-above a b = simp (le-leb 0x4A k a, lt-leb k 0x4C b)
+
+pub wide-unary-is : (k : ℕ) (a : List ℕ) (p q v w : ℕ) (l : List ℕ)
+    → p ≡ pair (getD a 0 0) (getD a 1 0) → v ≡ wideUnary k p
+    → q ≡ pair (getD a 2 0) (getD a 3 0) → w ≡ wideUnary k q
+    → l ≡ halves v w → l ≡ wideUnaryOf k a
+unfolding wideUnaryOf
+wide-unary-is k a p q v w l ep ev eq ew el = cc
+
+pub wide-is : (k : ℕ) (a b : List ℕ) (p q m n x y v w : ℕ) (l : List ℕ)
+    → p ≡ pair (getD a 0 0) (getD a 1 0) → m ≡ pair (getD b 0 0) (getD b 1 0) → x ≡ countOr k (getD b 0 0) m → v ≡ wide k p x
+    → q ≡ pair (getD a 2 0) (getD a 3 0) → n ≡ pair (getD b 2 0) (getD b 3 0) → y ≡ countOr k (getD b 1 0) n → w ≡ wide k q y
+    → l ≡ halves v w → l ≡ wideOf k a b
+unfolding wideOf
+wide-is k a b p q m n x y v w l ep em ex ev eq en ey ew el = cc

@@ -1,0 +1,15 @@
+-- A result goes to its components one after the other.
+use Rattle.effects.proofs.Writes.{left-is, written-is}
+use borrow.Author.Needs.{needs}
+use Rattle.effects.proofs.destinations.write.Statement.{statement}
+use Rattle.effects.proofs.destinations.write.Tie as tie
+
+pub write-spec : {M : Type 1} → statement M
+write-spec =
+    tie.close
+    (tie.spec
+    (search needs) (search needs) (search needs)
+    (λ c. search (needs, left-is))
+    (search needs) (search needs) (search needs) (search needs) (search needs) (search needs) (search needs)
+    (search needs) (search needs)
+    (λ c. search (needs, written-is)))

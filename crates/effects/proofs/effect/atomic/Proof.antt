@@ -1,0 +1,12 @@
+-- The old word is read before the new one is stored.
+use Rattle.effects.proofs.Effects.{exchange-is}
+use borrow.Author.Needs.{needs}
+use Rattle.effects.proofs.effect.atomic.Statement.{statement}
+use Rattle.effects.proofs.effect.atomic.Tie as tie
+
+pub atomic-spec : {M : Type 1} → statement M
+atomic-spec =
+    tie.close
+    (tie.spec
+    (search needs) (search needs) (search needs) (search needs) (search needs) (search needs)
+    (λ c. search (needs, exchange-is)))

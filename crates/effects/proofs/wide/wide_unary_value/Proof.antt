@@ -1,0 +1,17 @@
+-- Kinds 1B to 1D: each arm is the table at its kind.
+use Rattle.effects.proofs.Families.{arm₁}
+use Rattle.effects.specs.Arithmetic.{wideUnary}
+use borrow.Author.Needs.{needs}
+use Rattle.effects.proofs.wide.wide_unary_value.Statement.{statement}
+use Rattle.effects.proofs.wide.wide_unary_value.Tie as tie
+
+pub wide-unary-value-spec : {M : Type 1} → statement M
+unfolding wideUnary
+wide-unary-value-spec =
+    tie.close
+    (tie.spec
+    (search needs) (search needs) (search needs)
+    (λ c. search (needs, arm₁ wideUnary 0x1b))
+    (λ c. search (needs, arm₁ wideUnary 0x1c))
+    (λ c. search (needs, arm₁ wideUnary 0x1d))
+    (search needs))

@@ -1,0 +1,4 @@
+pub mod Destinations
+pub mod Memory
+pub mod Arithmetic
+pub mod Effect

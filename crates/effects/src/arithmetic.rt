@@ -1,0 +1,142 @@
+// Results on words, component by component. Each family is a match over its kinds, in document 01's order.
+use crate::destinations::is_masked;
+use crate::sources::source_word;
+use words::bits::and32;
+use words::bits::brev32;
+use words::bits::imsb32;
+use words::bits::lsb32;
+use words::bits::not32;
+use words::bits::or32;
+use words::bits::popc32;
+use words::bits::umsb32;
+use words::bits::xor32;
+use words::division::sdiv32;
+use words::division::srem32;
+use words::division::udiv32;
+use words::division::urem32;
+use words::fields::bfi32;
+use words::fields::ibfe32;
+use words::fields::ubfe32;
+use words::order::flag32;
+use words::order::slt32;
+use words::order::smax32;
+use words::order::smin32;
+use words::order::ucmp32;
+use words::order::umax32;
+use words::order::umin32;
+use words::shifts::ishr32;
+use words::shifts::shl32;
+use words::shifts::ushr32;
+use words::sums::add32;
+use words::sums::iabs32;
+use words::sums::imulhi32;
+use words::sums::mul32;
+use words::sums::neg32;
+use words::sums::ssg32;
+use words::sums::umad32;
+use words::sums::umulhi32;
+ghost use mathlib.Core.Path.{_≡_};
+ghost use Prim.Native.Nat.{_+_, _<_, _≤_};
+ghost use lib.ListN.{length};
+ghost use Rattle.effects.specs.Destinations.{ifMasked, placed, writtenAt};
+ghost use Rattle.effects.specs.Arithmetic.{atomic, resultWord, resultWords};
+
+// A result on words, from one component of each source: the table of kinds, in its order.
+fn word(kind: u8, a: u32, b: u32, c: u32, d: u32) -> u32
+    ensures { λ r. ⌜ r ≡ resultWord kind a b c d ⌝ }
+{
+    match kind {
+        0x10 => a,
+        0x11 => not32(a),
+        0x12 => neg32(a),
+        0x13 => iabs32(a),
+        0x14 => ssg32(a),
+        0x15 => brev32(a),
+        0x16 => popc32(a),
+        0x17 => lsb32(a),
+        0x18 => imsb32(a),
+        0x19 => umsb32(a),
+        0x1a => a,
+        0x20 => add32(a, b),
+        0x21 => mul32(a, b),
+        0x22 => imulhi32(a, b),
+        0x23 => umulhi32(a, b),
+        0x24 => sdiv32(a, b),
+        0x25 => udiv32(a, b),
+        0x26 => srem32(a, b),
+        0x27 => urem32(a, b),
+        0x28 => and32(a, b),
+        0x29 => or32(a, b),
+        0x2a => xor32(a, b),
+        0x2b => smin32(a, b),
+        0x2c => smax32(a, b),
+        0x2d => umin32(a, b),
+        0x2e => umax32(a, b),
+        0x2f => shl32(a, b),
+        0x30 => ishr32(a, b),
+        0x31 => ushr32(a, b),
+        0x32 => flag32(slt32(a, b)),
+        0x33 => flag32(a < b),
+        0x34 => flag32(!slt32(a, b)),
+        0x35 => flag32(b <= a),
+        0x36 => flag32(a == b),
+        0x37 => flag32(a != b),
+        0x60 => umad32(a, b, c),
+        0x61 => ucmp32(a, b, c),
+        0x62 => ibfe32(a, b, c),
+        0x63 => ubfe32(a, b, c),
+        0x70 => bfi32(a, b, c, d),
+        _ => 0,
+    }
+}
+
+// Writes component i of a result on words; one that the mask does not have is not asked for.
+fn put_word(registers: &mut [u32], first: u32, mask: u8, kind: u8, sources: &[[u32; 4]; 4], i: u8)
+    requires { ⌜ (i < 4) × (first + 4 ≤ length (now registers)) ⌝ }
+    ensures { λ _. ⌜ now (registers .exit) ≡ ifMasked mask i (placed first (resultWords kind (now (sources .entry)))) (now (registers .entry)) ⌝ }
+{
+    if is_masked(mask, i) {
+        let k = i as usize;
+        let w = word(
+            kind,
+            source_word(sources, 0, k),
+            source_word(sources, 1, k),
+            source_word(sources, 2, k),
+            source_word(sources, 3, k),
+        );
+        registers[first as usize + k] = w;
+    }
+}
+
+pub fn write_words(registers: &mut [u32], first: u32, mask: u8, kind: u8, sources: &[[u32; 4]; 4])
+    ensures { λ _. ⌜ now (registers .exit) ≡ writtenAt (now (registers .entry)) first mask (resultWords kind (now (sources .entry))) ⌝ }
+{
+    if registers.len() < first as usize + 4 {
+        return;
+    }
+    let mut i: u8 = 0;
+    while i < 4 {
+        put_word(registers, first, mask, kind, sources, i);
+        i += 1;
+    }
+}
+
+// What an atomic stores, by the old word and src1.x.
+pub fn atomic_word(kind: u8, old: u32, b: u32) -> u32
+    requires { ⌜ (0x56 ≤ kind) × (kind < 0x60) ⌝ }
+    ensures { λ r. ⌜ r ≡ atomic kind old b ⌝ }
+{
+    match kind {
+        0x56 => smin32(old, b),
+        0x57 => smax32(old, b),
+        0x58 => old,
+        0x59 => add32(old, b),
+        0x5a => b,
+        0x5b => and32(old, b),
+        0x5c => or32(old, b),
+        0x5d => xor32(old, b),
+        0x5e => umin32(old, b),
+        0x5f => umax32(old, b),
+        _ => 0,
+    }
+}

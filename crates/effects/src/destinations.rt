@@ -1,0 +1,51 @@
+// Destinations: results written by register number to the components of a mask.
+use crate::lent::set_word;
+use format::fields::Destination;
+ghost use mathlib.Core.Path.{_≡_};
+ghost use Prim.Native.Nat.{_+_, _<_};
+ghost use lib.Dec.{eqb};
+ghost use lib.ListN.{set};
+ghost use Rattle.words.specs.Word.{bit};
+ghost use Rattle.effects.specs.Destinations.{ifMasked, firstWord, written};
+
+// Whether a mask has component i.
+pub fn is_masked(mask: u8, i: u8) -> bool
+    requires { ⌜ i < 8 ⌝ }
+    ensures { λ r. ⌜ r ≡ eqb (bit mask i) 1 ⌝ }
+{
+    (mask >> i) % 2 == 1
+}
+
+fn put(registers: &mut [u32], mask: u8, i: u8, first: u32, word: u32)
+    requires { ⌜ i < 8 ⌝ }
+    ensures { λ r. ⌜ now (registers .exit) ≡ ifMasked mask i (λ i l. set l (first + i) word) (now (registers .entry)) ⌝ }
+{
+    if is_masked(mask, i) {
+        set_word(registers, first as usize + i as usize, word);
+    }
+}
+
+pub fn first_word(d: Destination) -> u32
+    ensures { λ r. ⌜ r ≡ firstWord d ⌝ }
+{
+    let file = d.file;
+    match file {
+        3 => 4 * d.index as u32,
+        4 => 128 + 4 * d.index as u32,
+        _ => 1152,
+    }
+}
+
+// A result written to the components that the destination's mask has.
+pub fn write(registers: &mut [u32], d: Destination, v: [u32; 4])
+    ensures { λ r. ⌜ now (registers .exit) ≡ written (now (registers .entry)) d v ⌝ }
+{
+    let first = first_word(d);
+    if registers.len() < first as usize + 4 {
+        return;
+    }
+    put(registers, d.mask, 0, first, v[0]);
+    put(registers, d.mask, 1, first, v[1]);
+    put(registers, d.mask, 2, first, v[2]);
+    put(registers, d.mask, 3, first, v[3]);
+}

@@ -1,0 +1,94 @@
+// The effect of an instruction on registers and memory: a match on the kind with ranges.
+use crate::arithmetic::atomic_word;
+use crate::arithmetic::write_words;
+use crate::destinations::first_word;
+use crate::destinations::write;
+use crate::memory::load;
+use crate::memory::load_from;
+use crate::memory::store;
+use crate::memory::store_from;
+use crate::sources::source;
+use crate::sources::source_word;
+use crate::wide::wide_unary_words;
+use crate::wide::wide_words;
+use format::fields::Destination;
+use words::order::cas32;
+ghost use mathlib.Core.Path.{_≡_};
+ghost use Prim.Native.Nat.{_<_, _≤_};
+ghost use Rattle.words.specs.Word.{cas};
+ghost use Rattle.effects.specs.Arithmetic.{atomic as atomicOf};
+ghost use Rattle.effects.specs.Effect.{state, exchange, familyOf, effectOf};
+
+fn atomic(kind: u8, d: Destination, address: u32, b: u32, registers: &mut [u32], memory: &mut [u32])
+    requires { ⌜ (0x56 ≤ kind) × (kind < 0x60) ⌝ }
+    ensures { λ r. ⌜ state (now (registers .exit)) (now (memory .exit)) ≡ exchange d (state (now (registers .entry)) (now (memory .entry))) address (λ old. atomicOf kind old b) ⌝ }
+{
+    let old = load(memory, address as usize);
+    store(memory, address as usize, atomic_word(kind, old, b));
+    write(registers, d, [old, old, old, old]);
+}
+
+fn atomic_cas(
+    d: Destination,
+    address: u32,
+    b: u32,
+    c: u32,
+    registers: &mut [u32],
+    memory: &mut [u32],
+)
+    ensures { λ r. ⌜ state (now (registers .exit)) (now (memory .exit)) ≡ exchange d (state (now (registers .entry)) (now (memory .entry))) address (λ old. cas old b c) ⌝ }
+{
+    let old = load(memory, address as usize);
+    store(memory, address as usize, cas32(old, b, c));
+    write(registers, d, [old, old, old, old]);
+}
+
+pub fn effect(
+    kind: u8,
+    d: Destination,
+    sources: &[[u32; 4]; 4],
+    registers: &mut [u32],
+    memory: &mut [u32],
+)
+    ensures { λ r. ⌜ state (now (registers .exit)) (now (memory .exit)) ≡ effectOf (familyOf kind) kind d (now (sources .entry)) (state (now (registers .entry)) (now (memory .entry))) ⌝ }
+{
+    let first = first_word(d);
+    match kind {
+        0x10..=0x1a => write_words(registers, first, d.mask, kind, sources),
+        0x1b..=0x1d => write(registers, d, wide_unary_words(kind, source(sources, 0))),
+        0x1e => write(registers, d, load_from(memory, source_word(sources, 0, 0))),
+        0x20..=0x37 => write_words(registers, first, d.mask, kind, sources),
+        0x40..=0x52 => write(
+            registers,
+            d,
+            wide_words(kind, source(sources, 0), source(sources, 1)),
+        ),
+        0x58 => store_from(
+            memory,
+            source_word(sources, 0, 0),
+            d.mask,
+            source(sources, 1),
+        ),
+        0x56..=0x5f => atomic(
+            kind,
+            d,
+            source_word(sources, 0, 0),
+            source_word(sources, 1, 0),
+            registers,
+            memory,
+        ),
+        0x60..=0x63 => write_words(registers, first, d.mask, kind, sources),
+        0x64 => {
+            atomic_cas(
+                d,
+                source_word(sources, 0, 0),
+                source_word(sources, 1, 0),
+                source_word(sources, 2, 0),
+                registers,
+                memory,
+            );
+        }
+        0x70 => write_words(registers, first, d.mask, kind, sources),
+        _ => {}
+    }
+}

@@ -1,0 +1,20 @@
+-- The bank: what a program reads and never writes, in one array of 5,288 words. CONST i from word 4i, IN i from 4096+4i, IMM i from
+-- 4224+4i, and from word 5248 on the bits of the declared sets.
+-- Assumes nothing.
+use Prim.Native.Nat.{ℕ}
+use mathlib.Core.List.{List}
+use lib.ListN.{take, drop}
+use Rattle.machine.specs.Operands.{Env, wordIn, declaredIn}
+
+-- n words from `first` on.
+abbrev pub part : List ℕ → ℕ → ℕ → List ℕ
+part bank first n = take n (drop first bank)
+
+abbrev pub envIn : List ℕ → Env
+envIn bank =
+    record {
+      constants = wordIn (part bank 0 4096);
+      inputs = wordIn (part bank 4096 128);
+      immediates = wordIn (part bank 4224 1024);
+      declared = declaredIn (part bank 5248 40);
+    }
