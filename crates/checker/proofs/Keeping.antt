@@ -15,14 +15,14 @@ use Rattle.format.specs.Records.{sizeAt}
 use Rattle.format.specs.Fields.{word32}
 use Rattle.format.specs.declared.fields.Declaration.{Declaration}
 use Rattle.blocks.specs.Nesting.{Open}
-use Rattle.checker.specs.Sets.{IN, CONST, none, isIn, withRange, registersOf}
-use Rattle.checker.specs.Rules.{declarationRule}
+use Rattle.registers.specs.Sets.{IN, CONST, none, isIn, withRange, registersOf}
+use Rattle.registers.specs.Rules.{declarationRule}
+use Rattle.registers.specs.declared.sets.Declared.{Declared}
+use Rattle.registers.proofs.Choices.{never}
 use Rattle.checker.specs.Findings.{nothing, reach, withDeclaration, immediateAt, withImmediate}
 use Rattle.checker.specs.Check.{programSeen}
 use Rattle.checker.specs.Held.{Padded}
 use Rattle.checker.specs.declared.program.Program.{Program}
-use Rattle.checker.specs.declared.sets.Declared.{Declared}
-use Rattle.checker.proofs.Choices.{never}
 
 -- ---- Declarations
 

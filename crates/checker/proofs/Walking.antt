@@ -14,8 +14,9 @@ use Rattle.format.specs.Fields.{caseWord}
 use Rattle.blocks.specs.Control.{opOf}
 use Rattle.blocks.specs.Nesting.{Open, Ruling, goes, rule}
 use Rattle.blocks.specs.Nesting as nesting
-use Rattle.checker.specs.Rules.{operandRules}
-use Rattle.checker.specs.Findings.{Seen, nothing, Finding, taken, due, operandsFound, nested, withInstruction, declarationFinding, immediateFinding, instructionFinding, recordFinding}
+use Rattle.registers.specs.Rules.{operandRules}
+use Rattle.registers.specs.Found.{operandsFound}
+use Rattle.checker.specs.Findings.{Seen, nothing, Finding, taken, due, nested, withInstruction, declarationFinding, immediateFinding, instructionFinding, recordFinding}
 use Rattle.checker.specs.Check.{Outcome, accepted, refused, onward, walk, checkOf, breaks, told, toldOf, programSeen, concluded, outcome, wordsAfter}
 use Rattle.checker.specs.Held.{blocksOf, Padded, seen, endOf, Tells, Turned}
 use Rattle.checker.specs.declared.Checked.{Checked}

@@ -10,9 +10,10 @@ use Rattle.format.specs.Kinds.{within}
 use Rattle.format.specs.Records.{sizeAt}
 use Rattle.blocks.specs.Run.{mostInstructions}
 use Rattle.blocks.specs.Nesting.{Open, openUif, openElse, openLoop, openSwitch, Ruling, goes, refused, mostOpen}
-use Rattle.checker.specs.Sets.{isIn}
-use Rattle.checker.specs.Rules.{operandRules}
-use Rattle.checker.specs.Findings.{Seen, Finding, taken, due, mostImmediates, operandsFound, recordFinding}
+use Rattle.registers.specs.Sets.{isIn}
+use Rattle.registers.specs.Rules.{operandRules}
+use Rattle.registers.specs.Found.{operandsFound}
+use Rattle.checker.specs.Findings.{Seen, Finding, taken, due, mostImmediates, recordFinding}
 use Rattle.checker.specs.Tree.{Tree}
 use Rattle.checker.specs.Check.{Outcome, onward, programSeen, concluded}
 use Rattle.checker.specs.declared.Verdict.{Verdict}

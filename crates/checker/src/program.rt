@@ -1,7 +1,7 @@
 // What the checker keeps of a program, after a declaration and after an immediate.
-use crate::sets;
-use crate::sets::Declared;
 use format::fields::Declaration;
+use registers::sets;
+use registers::sets::Declared;
 ghost use mathlib.Core.Path.{_≡_};
 ghost use mathlib.Core.Bool.{true};
 ghost use mathlib.Core.List.{List, []};
@@ -10,7 +10,7 @@ ghost use lib.ListN.{length};
 ghost use lib.Seq.{sets};
 ghost use Rattle.format.specs.Records.{sizeAt};
 ghost use Rattle.blocks.specs.Nesting.{Open};
-ghost use Rattle.checker.specs.Rules.{declarationRule};
+ghost use Rattle.registers.specs.Rules.{declarationRule};
 ghost use Rattle.checker.specs.Findings.{nothing, reach, withDeclaration, immediateAt, withImmediate};
 ghost use Rattle.checker.specs.Check.{programSeen};
 ghost use Rattle.checker.specs.Held.{Padded};

@@ -18,6 +18,7 @@ use Rattle.blocks.specs.Reading.{Reading, out, ended, halted, reading}
 use Rattle.blocks.specs.Run.{run, mostInstructions}
 use Rattle.blocks.specs.Table.{rowIn, placeIn, rowWords}
 use Rattle.blocks.proofs.Correct.{Final, run-final}
+use Rattle.registers.specs.Sets.{isIn}
 use Rattle.checker.specs.declared.Checked.{Checked}
 use Rattle.checker.specs.declared.Verdict.{Verdict}
 use Rattle.checker.specs.declared.Verdict.the-variants.{Accepted, Refused}
@@ -25,7 +26,6 @@ use Rattle.checker.specs.declared.program.Program.{Program}
 use Rattle.checker.specs.Check.{accepted, refused, checkOf, programSeen, outcome, concluded, wordsAfter}
 use Rattle.checker.specs.Check as check
 use Rattle.checker.specs.Findings.{Seen}
-use Rattle.checker.specs.Sets.{isIn}
 use Rattle.checker.proofs.Followed.{followed}
 use Rattle.machine.specs.Effect.{state}
 use Rattle.machine.specs.Operands.{Env, State}

@@ -8,9 +8,9 @@ use Rattle.blocks.specs.Prepared.{filled}
 use Rattle.blocks.specs.Reading.{Reading, out, ended, halted}
 use Rattle.blocks.specs.Run.{run, mostInstructions}
 use Rattle.blocks.specs.Table.{rowIn, placeIn}
+use Rattle.registers.specs.Sets.{isIn}
 use Rattle.checker.specs.declared.program.Program.{Program}
 use Rattle.checker.specs.Findings.{Seen}
-use Rattle.checker.specs.Sets.{isIn}
 use Rattle.checker.specs.Check.{accepted, checkOf}
 use Rattle.machine.specs.Operands.{State}
 use Rattle.machine.specs.Step.{machineOf}

@@ -1,13 +1,13 @@
 // What is lent to a run: the refusal that is due for it, the registers cleared, and the declared sets as the machine asks them.
 use blocks::table::ROW_WORDS;
 use checker::program::Program;
-use checker::sets::Declared;
+use registers::sets::Declared;
 ghost use mathlib.Core.Path.{_≡_};
 ghost use mathlib.Core.List.{[], _++_};
 ghost use Prim.Native.Nat.{_≤_, _<_};
 ghost use lib.ListN.{length, getD};
+ghost use Rattle.registers.specs.Sets.{isIn};
 ghost use Rattle.checker.specs.Check.{programSeen};
-ghost use Rattle.checker.specs.Sets.{isIn};
 ghost use Rattle.machine.specs.Operands.{declaredIn};
 ghost use Rattle.runner.specs.Whole.{lentRefusal, cleared, askedIndirectly};
 

@@ -7,7 +7,7 @@ use checker::program::Program;
 use machine::step::step;
 ghost use Prim.Native.Nat.{_≤_};
 ghost use lib.ListN.{length};
-ghost use Rattle.checker.specs.Sets.{isIn};
+ghost use Rattle.registers.specs.Sets.{isIn};
 ghost use Rattle.machine.specs.Operands.{declaredIn};
 ghost use Rattle.machine.specs.Effect.{state};
 ghost use Rattle.runner.specs.Whole.{askedIndirectly};
