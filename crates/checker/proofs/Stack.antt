@@ -4,11 +4,10 @@
 use mathlib.Core.Path.{_≡_, refl, sym, ap, _∙_, subst}
 use mathlib.Core.Bool.{Bool, true, false, not, _&&_, _||_}
 use mathlib.Core.List.{List}
-use Prim.Native.Nat.{ℕ, zero, suc, _+_, _-_, _<_, _≤_}
+use Prim.Native.Nat.{ℕ, zero, suc, _-_, _<_, _≤_}
 use native.Mathlib.Omega.{arith}
 use lib.Dec.{eqb}
 use lib.ListN.{length, getD}
-use borrow.Author.Tests.{eq-eqb, ne-eqb}
 use Rattle.format.specs.Kinds.{within}
 use Rattle.blocks.specs.Control.{PLAIN, opOf}
 use Rattle.blocks.specs.Nesting.{Open, isUif, isElse, isLoop, isSwitch, anySwitch, some, innermost, nestingRule, switchRule, opens}

@@ -1,9 +1,9 @@
 -- What has been seen of a program, and what is found of its next record: it is taken, or the lowest number of a refusal that
 -- applies to it is due.
 -- Assumes nothing.
-use Prim.Native.Nat.{ℕ, _+_, _-_, _*_, max}
+use Prim.Native.Nat.{ℕ, _+_, _*_, max}
 use mathlib.Core.List.{List, [], _∷_, _++_}
-use mathlib.Core.Bool.{Bool, cond, not}
+use mathlib.Core.Bool.{cond, not}
 use lib.Dec.{eqb, leb, ltb}
 use lib.ListN.{length, getD}
 use Rattle.format.specs.Kinds.{lengthOf}
@@ -13,9 +13,9 @@ use Rattle.format.specs.declared.fields.Declaration.{Declaration}
 use Rattle.blocks.specs.Control.{opOf}
 use Rattle.blocks.specs.Run.{mostInstructions}
 use Rattle.blocks.specs.Nesting.{Open, Ruling, goes, refused, rule}
-use Rattle.registers.specs.Sets.{Registers, none, withRange, anyOf, CONST, IN}
+use Rattle.registers.specs.Sets.{Registers, none, withRange, CONST, IN}
 use Rattle.registers.specs.Rules.{operandRules, declarationRule}
-use Rattle.registers.specs.Found.{operandsFound}
+use Rattle.registers.specs.Found.{overlaps, operandsFound}
 
 -- What has been seen so far: the declared registers; the immediates' words in order, four each; one more than the highest
 -- declared IN and CONST, 0 for none; where the instructions begin, which is after the last declaration or immediate; how many
@@ -58,10 +58,6 @@ withDeclaration s d next =
       instructions = s .instructions;
       blocks = s .blocks;
     }
-
--- "declaration overlaps an earlier one of its file"
-abbrev pub overlaps : Registers → Declaration → Bool
-overlaps declared d = anyOf (declared (d .file)) (d .first) (d .last + 1 - d .first)
 
 unfoldable pub declarationFinding : Seen → List ℕ → ℕ → Finding
 declarationFinding s file at =

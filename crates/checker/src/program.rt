@@ -58,7 +58,7 @@ pub fn with_declaration(p: Program, d: Declaration, next: usize) -> Program
     ensures { λ r. ⌜ ((words : List ℕ) (blocks : List Open) → programSeen r words blocks ≡ withDeclaration (programSeen p words blocks) d next) × (r .immediates ≡ p .immediates) × (r .instructions ≡ p .instructions) ⌝ }
 {
     let before = p.declared;
-    let declared = sets::declare(before, d.file, d.first as usize, d.last as usize);
+    let declared = sets::declare(before, d);
     let inputs = reach_of(2, d, p.inputs);
     let constants = reach_of(1, d, p.constants);
     Program {

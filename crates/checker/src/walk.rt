@@ -65,14 +65,14 @@ fn declaration(s: State, file: &[u8], at: usize, next: usize) -> Taken
         };
     }
     let d = format::fields::declaration_at(file, at + 1);
-    if !operands::declaration_allowed(d) {
+    if !sets::declaration_allowed(d) {
         return Taken {
             refusal: 7,
             state: s,
         };
     }
     let declared = p.declared;
-    if sets::is_any_declared(declared, d.file, d.first as usize, d.last as usize) {
+    if sets::overlaps(declared, d) {
         return Taken {
             refusal: 8,
             state: s,
@@ -114,8 +114,8 @@ fn immediate(s: State, file: &[u8], at: usize, next: usize, words: &mut [u32]) -
 }
 
 // The lowest of 6, 7 and 9 that applies to an instruction of a kind at a place, 0 for none.
-fn operand_refusal(p: Program, kind: u8, file: &[u8], at: usize) -> u8
-    requires { ⌜ (at ≤ 65536) × (p .immediates ≤ 256) ⌝ }
+fn operand_refusal(p: Program, kind: u8, file: &[u8], at: u32) -> u8
+    requires { ⌜ p .immediates ≤ 256 ⌝ }
     ensures { λ r. ⌜ r ≡ operandRefusal p kind (now (file .entry)) at ⌝ }
 {
     if MOST_INSTRUCTIONS <= p.instructions {
@@ -194,7 +194,7 @@ fn instruction(
 {
     let p = s.program;
     let kind = format::fields::byte_at(file, at);
-    let number = operand_refusal(p, kind, file, at);
+    let number = operand_refusal(p, kind, file, at as u32);
     if number != 0 {
         return Taken {
             refusal: number,

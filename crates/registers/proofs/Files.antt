@@ -1,17 +1,20 @@
--- The register files: what holds of the words of one file, by its number, holds of the set.
+-- The register files: what holds of the words of one file, by its number, holds of the set; and what a declaration adds to it.
 -- Assumes nothing.
 use mathlib.Core.Path.{_≡_, refl, sym, ap, _∙_}
-use mathlib.Core.Bool.{Bool, true, false, cond, _||_}
+use mathlib.Core.Bool.{Bool, true, false, cond, not, _&&_, _||_}
 use mathlib.Core.List.{List, []}
 use Prim.Native.Nat.{ℕ, zero, suc, _/_, _%_, _^_, _*_, _<_, _≤_}
 use native.Mathlib.Omega.{arith}
 use native.Mathlib.Nat.{zero-div}
-use lib.Dec.{eqb}
+use lib.Dec.{eqb, leb, ltb}
 use lib.ListN.{length, getD, replicate}
-use borrow.Author.Tests.{eqb-true, ne-eqb}
-use Rattle.registers.specs.Sets.{withAll, bit, bitIn, wordsOf, isIn, none, withRange, anyOf, registersOf}
+use borrow.Author.Tests.{eqb-true, ne-eqb, leb-true, ltb-true, not-true, not-false}
+use Rattle.format.specs.Kinds.{within}
+use Rattle.format.specs.declared.fields.Declaration.{Declaration}
+use Rattle.registers.specs.Sets.{withAll, bit, bitIn, wordsOf, isIn, none, withRange, anyOf, registersOf, Registers}
+use Rattle.registers.specs.Rules.{declarationRule}
 use Rattle.registers.specs.declared.sets.Declared.{Declared}
-use Rattle.registers.proofs.Choices.{when-number, or-false, never}
+use Rattle.registers.proofs.Choices.{when-number, chosen, passed, or-false, never}
 
 file-cases : (P : ℕ → Type 0) → P 1 → P 2 → P 3 → P 4 → P 5 → P 7
     → ((f : ℕ) → eqb f 1 ≡ false → eqb f 2 ≡ false → eqb f 3 ≡ false → eqb f 4 ≡ false → eqb f 5 ≡ false → eqb f 7 ≡ false → P f) → (f : ℕ) → P f
@@ -33,19 +36,11 @@ module _ (k : ℕ) (d : Declared) (f : ℕ) (r : Bool) (file : f ≡ k) where
 pub size-in : (k f r : ℕ) → f ≡ k → r ≡ registersOf k → r ≡ registersOf f
 size-in k f r e q = rw e q
 
-pub size-most : (f : ℕ) → registersOf f ≤ 1024
-size-most =
-    file-cases (λ (f : ℕ). registersOf f ≤ 1024) (omega arith) (omega arith) (omega arith) (omega arith) (omega arith) (omega arith)
-    (λ g e1 e2 e3 e4 e5 e7. rw (e1, e2, e3, e4, e5, e7) (omega arith))
-
 -- A file's registers lie in its m words.
 pub register-in : (k m : ℕ) → registersOf k ≤ 32 * m → (ws : List ℕ) (f i : ℕ) → f ≡ k → length ws ≡ m → i < registersOf f → i < 32 * length ws
 register-in k m fits ws f i file e h =
     let s : registersOf f ≡ registersOf k = ap registersOf file in
     omega arith
-
-pub register-small : (f i : ℕ) → i < registersOf f → i < 65536
-register-small f i h = omega (arith, size-most f)
 
 -- All m words of a file are its registers.
 pub some-declared-in : (k m : ℕ) → 32 * m ≡ registersOf k → (d : Declared) (f : ℕ) (r : Bool) → f ≡ k → length (wordsOf d k) ≡ m
@@ -132,3 +127,32 @@ module _ (k : ℕ) (d e : Declared) (f first last : ℕ) (ws : List ℕ)
           rw (changed g, q)
           (ap (λ (p : ℕ → Bool). p j) bits ∙ ap (λ (h : ℕ). withAll (bitIn (wordsOf d h)) first last j) (sym (eqb-true g k q)))
       by g j false q = rw (changed g, q)
+
+-- ---- Declarations
+
+both : (a b c : Bool) → (a && b && c) ≡ true → (b ≡ true) × (c ≡ true)
+both true true true e = (refl, refl)
+both true true false e = (refl, e)
+both true false c e = never e
+both false b c e = never e
+
+module _ (d : Declaration) (r : Bool) (rules : r ≡ declarationRule d) where
+  module _ (kept : not r ≡ false) where
+    keeps : declarationRule d ≡ true
+    keeps = sym rules ∙ not-false r kept
+
+    parts : (leb (d .first) (d .last) ≡ true) × (ltb (d .last) (registersOf (d .file)) ≡ true)
+    unfolding declarationRule
+    parts = both (within 1 5 (d .file) || eqb (d .file) 7) (leb (d .first) (d .last)) (ltb (d .last) (registersOf (d .file))) keeps
+
+    pub rule-order : d .first ≤ d .last
+    rule-order = leb-true (d .first) (d .last) (parts .0)
+
+    pub rule-last : d .last < registersOf (d .file)
+    rule-last = ltb-true (d .last) (registersOf (d .file)) (parts .1)
+
+    pub declares : (s e : Registers) → e ≡ withRange s (d .file) (d .first) (d .last) → e ≡ cond (declarationRule d) (withRange s (d .file) (d .first) (d .last)) s
+    declares s e q = chosen (declarationRule d) _ s e keeps q
+
+  pub declares-none : (s : Registers) → not r ≡ true → s ≡ cond (declarationRule d) (withRange s (d .file) (d .first) (d .last)) s
+  declares-none s broken = passed (declarationRule d) _ s s (sym rules ∙ not-true r broken) refl

@@ -1,7 +1,7 @@
 -- The operands of an instruction, one after the other.
 -- Assumes nothing.
-use mathlib.Core.Path.{_≡_, refl, sym, ap, _∙_}
-use mathlib.Core.Bool.{Bool, true, false, cond, not, _&&_, _||_}
+use mathlib.Core.Path.{_≡_, sym, ap, _∙_}
+use mathlib.Core.Bool.{Bool, true, false, not, _&&_, _||_}
 use mathlib.Core.List.{List}
 use Prim.Native.Nat.{ℕ, suc, _+_, _-_, _*_, _/_}
 use native.Mathlib.Omega.{arith}
@@ -39,15 +39,18 @@ module _ (asked : Source → Bool) (file : List ℕ) (p left : ℕ) where
 
 -- ---- The destination, and the sources after it
 
-pub all-operands : (kind d s : ℕ) (askedD : Destination → Bool) (askedS : Source → Bool) (file : List ℕ) (at : ℕ) (r : Destination) (x y : Bool)
+pub sources-begin : (asked : Source → Bool) (file : List ℕ) (at kind d n : ℕ) → d ≡ destinations (formOf kind) → n ≡ sources (formOf kind)
+    → allSources asked file (at + 1 + 4 * destinations (formOf kind)) (sources (formOf kind)) ≡ allSources asked file (at + 1 + 4 * d) n
+sources-begin asked file at kind d n ds ns = rw (ds, ns)
+
+pub all-operands : (kind d : ℕ) (askedD : Destination → Bool) (askedS : Source → Bool) (file : List ℕ) (at : ℕ) (r : Destination) (x y : Bool)
     → d ≡ destinations (formOf kind)
-    → s ≡ sources (formOf kind)
     → r ≡ destinationAt file (at + 1)
     → x ≡ askedD r
-    → y ≡ allSources askedS file (at + 1 + 4 * d) s
+    → y ≡ allSources askedS file (at + 1 + 4 * destinations (formOf kind)) (sources (formOf kind))
     → ((eqb d 0 || x) && y) ≡ allOperands kind askedD askedS file at
 unfolding allOperands
-all-operands kind d s askedD askedS file at r x y ds ss here answer rest = rw (rest, answer, here, ds, ss)
+all-operands kind d askedD askedS file at r x y ds here answer rest = rw (rest, answer, here, ds)
 
 -- ---- What a source names
 

@@ -1,14 +1,19 @@
--- Whether the registers and the immediates that an instruction names are there. Where one is not, the instruction is refused
--- with 9.
+-- Whether what a record names has been seen before: the registers of a declaration, which is then refused with 8, and the
+-- registers and immediates of an instruction, which is refused with 9 where one has not.
 -- Assumes nothing.
-use Prim.Native.Nat.{ℕ, _*_}
+use Prim.Native.Nat.{ℕ, _+_, _-_, _*_}
 use mathlib.Core.List.{List}
 use mathlib.Core.Bool.{Bool, cond, not, _&&_, _||_}
 use lib.Dec.{eqb, ltb}
 use Rattle.format.specs.declared.fields.Destination.{Destination}
 use Rattle.format.specs.declared.fields.Source.{Source}
+use Rattle.format.specs.declared.fields.Declaration.{Declaration}
 use Rattle.registers.specs.Sets.{Registers, anyOf, registersOf, ADDR, IMM, MEM}
 use Rattle.registers.specs.Rules.{indirect, memoryKind, allOperands}
+
+-- "declaration overlaps an earlier one of its file"
+abbrev pub overlaps : Registers → Declaration → Bool
+overlaps declared d = anyOf (declared (d .file)) (d .first) (d .last + 1 - d .first)
 
 -- "direct operand not declared, or no such immediate", the immediates having so many words
 abbrev pub directFound : Registers → ℕ → ℕ → ℕ → Bool

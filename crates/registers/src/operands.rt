@@ -1,16 +1,16 @@
-// The field rules: which operands an instruction may have, and which registers a declaration may name.
-use format::fields::Declaration;
+// The operands of an instruction: which it may have, by the field rules, and whether what they name is there.
+use crate::sets;
+use crate::sets::Declared;
 use format::fields::Destination;
 use format::fields::Source;
 use format::kinds::destinations_of;
 use format::kinds::sources_of;
 ghost use mathlib.Core.Path.{_≡_};
-ghost use Prim.Native.Nat.{_≤_};
-ghost use Rattle.registers.specs.Rules.{mayNegate, memoryKind, destinationFile, maskRule, destinationRule, sourceRule, declarationRule, allSources, allOperands, operandRules};
+ghost use Prim.Native.Nat.{_+_, _*_};
+ghost use Rattle.format.specs.Kinds.{destinations, sources, formOf};
+ghost use Rattle.registers.specs.Rules.{mayNegate, memoryKind, destinationFile, maskRule, destinationRule, sourceRule, allSources, allOperands, operandRules};
 ghost use Rattle.registers.specs.Sets.{isIn};
 ghost use Rattle.registers.specs.Found.{destinationFound, sourceFound, operandsFound};
-use crate::sets;
-use crate::sets::Declared;
 
 // Whether instructions of a kind may negate a source.
 fn may_negate(kind: u8) -> bool
@@ -70,23 +70,12 @@ fn source_allowed(kind: u8, s: Source) -> bool
         & ((kind != 0x92) | ((file == 6) & (modifier == 0)))
 }
 
-// Whether a declaration names registers that its file has.
-pub fn declaration_allowed(d: Declaration) -> bool
-    ensures { λ r. ⌜ r ≡ declarationRule d ⌝ }
+// Whether the sources of an instruction of a kind at a place keep the rules.
+fn sources_allowed(kind: u8, file: &[u8], at: u32) -> bool
+    ensures { λ r. ⌜ r ≡ allSources (sourceRule kind) (now (file .entry)) (at + 1 + 4 * destinations (formOf kind)) (sources (formOf kind)) ⌝ }
 {
-    let file = d.file;
-    (((1 <= file) & (file <= 5)) | (file == 7))
-        & (d.first <= d.last)
-        & ((d.last as usize) < sets::registers_of(file))
-}
-
-// Whether n sources from a place on keep the rules of a kind.
-fn sources_allowed(kind: u8, file: &[u8], from: usize, n: u8) -> bool
-    requires { ⌜ from ≤ 100000 ⌝ }
-    ensures { λ r. ⌜ r ≡ allSources (sourceRule kind) (now (file .entry)) from n ⌝ }
-{
-    let mut place = from;
-    let mut left = n;
+    let mut place = at as usize + 1 + 4 * destinations_of(kind) as usize;
+    let mut left = sources_of(kind);
     while left != 0 {
         if !source_allowed(kind, format::fields::source_at(file, place)) {
             return false;
@@ -98,15 +87,12 @@ fn sources_allowed(kind: u8, file: &[u8], from: usize, n: u8) -> bool
 }
 
 // Whether the operands of an instruction of a kind at a place keep the rules.
-pub fn rules_kept(kind: u8, file: &[u8], at: usize) -> bool
-    requires { ⌜ at ≤ 65536 ⌝ }
+pub fn rules_kept(kind: u8, file: &[u8], at: u32) -> bool
     ensures { λ r. ⌜ r ≡ operandRules kind (now (file .entry)) at ⌝ }
 {
-    let destinations = destinations_of(kind);
-    let destination = format::fields::destination_at(file, at + 1);
-    let from = at + 1 + 4 * destinations as usize;
-    ((destinations == 0) | destination_allowed(kind, destination))
-        & sources_allowed(kind, file, from, sources_of(kind))
+    let destination = format::fields::destination_at(file, at as usize + 1);
+    ((destinations_of(kind) == 0) | destination_allowed(kind, destination))
+        & sources_allowed(kind, file, at)
 }
 
 // Whether what a source names is there: a declared register, one of so many immediates' words, or for an indirect source
@@ -125,12 +111,12 @@ fn source_found(d: Declared, words: usize, s: Source) -> bool
     sets::is_declared(d, file, index)
 }
 
-fn sources_found(d: Declared, words: usize, file: &[u8], from: usize, n: u8) -> bool
-    requires { ⌜ from ≤ 100000 ⌝ }
-    ensures { λ r. ⌜ r ≡ allSources (sourceFound (isIn d) words) (now (file .entry)) from n ⌝ }
+// Whether what the sources of an instruction of a kind at a place name is there.
+fn sources_found(kind: u8, d: Declared, words: usize, file: &[u8], at: u32) -> bool
+    ensures { λ r. ⌜ r ≡ allSources (sourceFound (isIn d) words) (now (file .entry)) (at + 1 + 4 * destinations (formOf kind)) (sources (formOf kind)) ⌝ }
 {
-    let mut place = from;
-    let mut left = n;
+    let mut place = at as usize + 1 + 4 * destinations_of(kind) as usize;
+    let mut left = sources_of(kind);
     while left != 0 {
         if !source_found(d, words, format::fields::source_at(file, place)) {
             return false;
@@ -149,20 +135,16 @@ fn destination_found(d: Declared, destination: Destination) -> bool
 }
 
 // Whether the registers and immediates that an instruction of a kind at a place names are there.
-fn registers_found(kind: u8, d: Declared, words: usize, file: &[u8], at: usize) -> bool
-    requires { ⌜ at ≤ 65536 ⌝ }
+fn registers_found(kind: u8, d: Declared, words: usize, file: &[u8], at: u32) -> bool
     ensures { λ r. ⌜ r ≡ allOperands kind (destinationFound (isIn d)) (sourceFound (isIn d) words) (now (file .entry)) at ⌝ }
 {
-    let destinations = destinations_of(kind);
-    let destination = format::fields::destination_at(file, at + 1);
-    let from = at + 1 + 4 * destinations as usize;
-    ((destinations == 0) | destination_found(d, destination))
-        & sources_found(d, words, file, from, sources_of(kind))
+    let destination = format::fields::destination_at(file, at as usize + 1);
+    ((destinations_of(kind) == 0) | destination_found(d, destination))
+        & sources_found(kind, d, words, file, at)
 }
 
 // The same, and MEM for a memory kind.
-pub fn operands_found(kind: u8, d: Declared, words: usize, file: &[u8], at: usize) -> bool
-    requires { ⌜ at ≤ 65536 ⌝ }
+pub fn operands_found(kind: u8, d: Declared, words: usize, file: &[u8], at: u32) -> bool
     ensures { λ r. ⌜ r ≡ operandsFound kind (isIn d) words (now (file .entry)) at ⌝ }
 {
     registers_found(kind, d, words, file, at) & (!is_memory_kind(kind) | sets::is_declared(d, 7, 0))

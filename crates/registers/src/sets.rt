@@ -1,9 +1,13 @@
-// Which registers of each file are declared, one bit each, in a struct of word arrays that goes by value.
+// Which registers of each file are declared, one bit each, in a struct of word arrays that goes by value; and declarations,
+// which name registers of a file.
+use format::fields::Declaration;
 ghost use mathlib.Core.Path.{_≡_};
-ghost use mathlib.Core.Bool.{Bool};
+ghost use mathlib.Core.Bool.{cond};
 ghost use Prim.Native.Nat.{_<_, _≤_, _+_, _-_, _*_};
 ghost use lib.ListN.{length};
 ghost use Rattle.registers.specs.Sets.{bit, bitIn, isIn, none, withOne, withAll, withRange, anyOf, registersOf};
+ghost use Rattle.registers.specs.Rules.{declarationRule};
+ghost use Rattle.registers.specs.Found.{overlaps};
 
 pub struct Declared {
     pub consts: [u32; 32],
@@ -29,7 +33,7 @@ pub fn empty() -> Declared
 }
 
 // How many registers of a file can be declared.
-pub fn registers_of(file: u8) -> usize
+fn registers_of(file: u8) -> usize
     ensures { λ r. ⌜ r ≡ registersOf file ⌝ }
 {
     match file {
@@ -56,12 +60,12 @@ fn has(words: &[u32], i: usize) -> bool
 }
 
 // Whether a bit from first to last is set.
-fn has_any(words: &[u32], first: usize, last: usize) -> bool
-    requires { ⌜ last < 65536 ⌝ }
+fn has_any(words: &[u32], first: u16, last: u16) -> bool
     ensures { λ r. ⌜ r ≡ anyOf (bitIn (now (words .entry))) first (last + 1 - first) ⌝ }
 {
-    let mut i = first;
-    while i <= last {
+    let end = last as usize;
+    let mut i = first as usize;
+    while i <= end {
         if has(words, i) {
             return true;
         }
@@ -101,12 +105,13 @@ fn set_bit(words: &mut [u32], i: usize)
 }
 
 // Sets the bits from first to last.
-fn set_bits(words: &mut [u32], first: usize, last: usize)
-    requires { ⌜ (first ≤ last) × (last < 32 * length (now words)) × (last < 65536) ⌝ }
+fn set_bits(words: &mut [u32], first: u16, last: u16)
+    requires { ⌜ (first ≤ last) × (last < 32 * length (now words)) ⌝ }
     ensures { λ r. ⌜ bitIn (now (words .exit)) ≡ withAll (bitIn (now (words .entry))) first last ⌝ }
 {
-    let mut i = first;
-    while i <= last {
+    let end = last as usize;
+    let mut i = first as usize;
+    while i <= end {
         set_bit(words, i);
         i += 1;
     }
@@ -127,22 +132,6 @@ pub fn is_declared(d: Declared, file: u8, index: usize) -> bool
     }
 }
 
-// Whether a register of a file from first to last is declared.
-pub fn is_any_declared(d: Declared, file: u8, first: usize, last: usize) -> bool
-    requires { ⌜ last < 65536 ⌝ }
-    ensures { λ r. ⌜ r ≡ anyOf (isIn d file) first (last + 1 - first) ⌝ }
-{
-    match file {
-        1 => has_any(&d.consts, first, last),
-        2 => has_any(&d.ins, first, last),
-        3 => has_any(&d.outs, first, last),
-        4 => has_any(&d.temps, first, last),
-        5 => has_any(&d.addr, first, last),
-        7 => has_any(&d.mem, first, last),
-        _ => false,
-    }
-}
-
 // Whether some register of a file is declared.
 pub fn is_file_declared(d: Declared, file: u8) -> bool
     ensures { λ r. ⌜ r ≡ anyOf (isIn d file) 0 (registersOf file) ⌝ }
@@ -158,8 +147,36 @@ pub fn is_file_declared(d: Declared, file: u8) -> bool
     }
 }
 
+// Whether a declaration names registers that its file has.
+pub fn declaration_allowed(d: Declaration) -> bool
+    ensures { λ r. ⌜ r ≡ declarationRule d ⌝ }
+{
+    let file = d.file;
+    (((1 <= file) & (file <= 5)) | (file == 7))
+        & (d.first <= d.last)
+        & ((d.last as usize) < registers_of(file))
+}
+
+// Whether a declaration names a register that is declared.
+pub fn overlaps(d: Declared, more: Declaration) -> bool
+    ensures { λ r. ⌜ r ≡ overlaps (isIn d) more ⌝ }
+{
+    let first = more.first;
+    let last = more.last;
+    let file = more.file;
+    match file {
+        1 => has_any(&d.consts, first, last),
+        2 => has_any(&d.ins, first, last),
+        3 => has_any(&d.outs, first, last),
+        4 => has_any(&d.temps, first, last),
+        5 => has_any(&d.addr, first, last),
+        7 => has_any(&d.mem, first, last),
+        _ => false,
+    }
+}
+
 // The set with the registers of a file from first to last more.
-pub fn declare(d: Declared, file: u8, first: usize, last: usize) -> Declared
+fn with_range(d: Declared, file: u8, first: u16, last: u16) -> Declared
     requires { ⌜ (first ≤ last) × (last < registersOf file) ⌝ }
     ensures { λ r. ⌜ isIn r ≡ withRange (isIn d) file first last ⌝ }
 {
@@ -203,4 +220,14 @@ pub fn declare(d: Declared, file: u8, first: usize, last: usize) -> Declared
         }
         _ => e,
     }
+}
+
+// The set with the registers more that a declaration names; where the declaration breaks its rule, the set as it is.
+pub fn declare(d: Declared, more: Declaration) -> Declared
+    ensures { λ r. ⌜ isIn r ≡ cond (declarationRule more) (withRange (isIn d) (more .file) (more .first) (more .last)) (isIn d) ⌝ }
+{
+    if !declaration_allowed(more) {
+        return d;
+    }
+    with_range(d, more.file, more.first, more.last)
 }

@@ -9,6 +9,7 @@ instruction-spec =
     tie.close
     (tie.spec
     (λ c κs. search needs)
+    (search needs)
     (λ c κs. search needs)
     (λ c. (search (needs, refused-operands), (search needs, search needs, search needs)))
     (λ c κs. search needs)

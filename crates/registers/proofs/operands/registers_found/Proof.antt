@@ -8,6 +8,5 @@ pub registers-found-spec : {M : Type 1} → statement M
 registers-found-spec =
     tie.close
     (tie.spec
-    (search needs) (search needs) (search needs) (search needs) (search needs) (search needs) (search needs)
-    (search needs) (search needs) (search needs)
+    (search needs) (search needs) (search needs) (search needs) (search needs)
     (λ c. search (needs, all-operands)))

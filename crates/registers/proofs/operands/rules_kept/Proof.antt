@@ -8,6 +8,5 @@ pub rules-kept-spec : {M : Type 1} → statement M
 rules-kept-spec =
     tie.close
     (tie.spec
-    (search needs) (search needs) (search needs) (search needs) (search needs) (search needs) (search needs)
-    (search needs) (search needs) (search needs)
+    (search needs) (search needs) (search needs) (search needs) (search needs)
     (λ c. search (needs, all-operands)))

@@ -1,7 +1,6 @@
--- Each arm sets the bits in the words of its file; a number that is no file has no register.
+-- A declaration that keeps its rule names registers of its file; one that does not adds none.
 use borrow.Author.Needs.{needs}
-use lib.Dec.{lit≤}
-use Rattle.registers.proofs.Files.{register-in, register-small, declared-more, nothing-in}
+use Rattle.registers.proofs.Files.{rule-order, rule-last, declares, declares-none}
 use Rattle.registers.proofs.sets.declare.Statement.{statement}
 use Rattle.registers.proofs.sets.declare.Tie as tie
 
@@ -9,22 +8,7 @@ pub declare-spec : {M : Type 1} → statement M
 declare-spec =
     tie.close
     (tie.spec
-    (λ c. search needs)
-    (λ c κs. search (needs, register-in 1 32 (lit≤ tt), register-small))
-    (λ c. search needs)
-    (λ c κs. search (needs, register-in 2 1 (lit≤ tt), register-small))
-    (λ c. search needs)
-    (λ c κs. search (needs, register-in 3 1 (lit≤ tt), register-small))
-    (λ c. search needs)
-    (λ c κs. search (needs, register-in 4 8 (lit≤ tt), register-small))
-    (λ c. search needs)
-    (λ c κs. search (needs, register-in 5 1 (lit≤ tt), register-small))
-    (λ c. search needs)
-    (λ c κs. search (needs, register-in 7 1 (lit≤ tt), register-small))
-    (λ c. search (needs, declared-more 1))
-    (λ c. search (needs, declared-more 2))
-    (λ c. search (needs, declared-more 3))
-    (λ c. search (needs, declared-more 4))
-    (λ c. search (needs, declared-more 5))
-    (λ c. search (needs, declared-more 7))
-    (λ c. search (needs, nothing-in)))
+    (search needs)
+    (λ c. search (needs, declares-none))
+    (λ c κs. search (needs, rule-order, rule-last))
+    (λ c. search (needs, declares)))

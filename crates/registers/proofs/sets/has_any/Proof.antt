@@ -8,11 +8,11 @@ use Rattle.registers.proofs.sets.has_any.Statement.{statement}
 use Rattle.registers.proofs.sets.has_any.Tie as tie
 
 abbrev Inv-loop : tie.InvT-loop
-Inv-loop words first last i₀ i =
+Inv-loop words first last end i₀ i =
     anyOf (bitIn words) first (last + 1 - first) ≡ anyOf (bitIn words) i (last + 1 - i)
 
 abbrev μ-loop : tie.MeasureT-loop
-μ-loop words first last i₀ i = last + 1 - i
+μ-loop words first last end i₀ i = last + 1 - i
 
 pub has-any-spec : {M : Type 1} → statement M
 has-any-spec =

@@ -10,11 +10,11 @@ use Rattle.registers.proofs.sets.set_bits.Statement.{statement}
 use Rattle.registers.proofs.sets.set_bits.Tie as tie
 
 abbrev Inv-loop : tie.InvT-loop
-Inv-loop words₀ first last i₀ words i =
+Inv-loop words₀ first last end i₀ words i =
     (first ≤ i) × (i ≤ last + 1) × (length words ≡ length words₀) × (bitIn words ≡ below (bitIn words₀) first i)
 
 abbrev μ-loop : tie.MeasureT-loop
-μ-loop words₀ first last i₀ words i = last + 1 - i
+μ-loop words₀ first last end i₀ words i = last + 1 - i
 
 pub set-bits-spec : {M : Type 1} → statement M
 set-bits-spec =

@@ -1,11 +1,11 @@
 -- Each arm searches the words of its file.
 use borrow.Author.Needs.{needs}
 use Rattle.registers.proofs.Files.{any-declared-in, none-in-range}
-use Rattle.registers.proofs.sets.is_any_declared.Statement.{statement}
-use Rattle.registers.proofs.sets.is_any_declared.Tie as tie
+use Rattle.registers.proofs.sets.overlaps.Statement.{statement}
+use Rattle.registers.proofs.sets.overlaps.Tie as tie
 
-pub is-any-declared-spec : {M : Type 1} → statement M
-is-any-declared-spec =
+pub overlaps-spec : {M : Type 1} → statement M
+overlaps-spec =
     tie.close
     (tie.spec
     (search needs) (search needs) (search needs) (search needs) (search needs) (search needs)
