@@ -19,7 +19,7 @@ ghost use Rattle.blocks.specs.Nesting.{rule};
 ghost use Rattle.checker.specs.Findings.{nothing, nested, declarationFinding, immediateFinding, instructionFinding, recordFinding};
 ghost use Rattle.checker.specs.Check.{checkOf, told, toldOf, outcome};
 ghost use Rattle.checker.specs.declared.Verdict.the-variants.{Refused};
-ghost use Rattle.checker.specs.Held.{blocksOf, seen, findingOf, operandRefusal, takenOf, endOf, Turned, Sound, Padded, Trees};
+ghost use Rattle.checker.specs.Held.{blocksOf, seen, findingOf, operandRefusal, takenOf, endOf, wayAfter, Turned, Sound, Padded, Trees};
 
 // What the checker knows after some records.
 pub struct State {
@@ -260,6 +260,20 @@ fn end_verdict(instructions: u32, at: usize, end: usize) -> Verdict
     Verdict::Accepted(instructions)
 }
 
+// How the walk goes on after a record of a kind at a place, of which this number was found, in a file of this length.
+fn way_after(refusal: u8, kind: u8, instructions: u32, at: usize, end: usize) -> Way
+    requires { ⌜ at < 65536 ⌝ }
+    ensures { λ r. ⌜ r ≡ wayAfter refusal kind instructions at end ⌝ }
+{
+    if refusal != 0 {
+        return Way::Ended(Verdict::Refused(refusal, at as u32));
+    }
+    if kind != END {
+        return Way::On;
+    }
+    Way::Ended(end_verdict(instructions, at, end))
+}
+
 // What a file of this length comes to that ends without END.
 fn unended(end: usize) -> Verdict
     requires { ⌜ end ≤ 65536 ⌝ }
@@ -283,23 +297,11 @@ fn take_turn(
 {
     let taken = record(s, file, at, words, values, links);
     let state = taken.state;
-    if taken.refusal != 0 {
-        return Turn {
-            state,
-            way: Way::Ended(Verdict::Refused(taken.refusal, at as u32)),
-        };
-    }
-    if format::fields::byte_at(file, at) != END {
-        return Turn {
-            state,
-            way: Way::On,
-        };
-    }
-    let program = taken.state.program;
-    let verdict = end_verdict(program.instructions, at, file.len());
+    let program = state.program;
+    let kind = format::fields::byte_at(file, at);
     Turn {
         state,
-        way: Way::Ended(verdict),
+        way: way_after(taken.refusal, kind, program.instructions, at, file.len()),
     }
 }
 
