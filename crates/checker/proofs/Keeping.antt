@@ -49,13 +49,20 @@ kept-nothing words e a = rw a
 
 -- ---- Immediates
 
-pub four-sets : (l file : List ℕ) (n at a b c d : ℕ) → a ≡ word32 file at → b ≡ word32 file (at + 4) → c ≡ word32 file (at + 8) → d ≡ word32 file (at + 12)
-    → set (set (set (set l n a) (n + 1) b) (n + 2) c) (n + 3) d ≡ sets l n (immediateAt file at)
-four-sets l file n at a b c d ea eb ec ed =
+pub word-set : (l file : List ℕ) (n at word : ℕ) → word ≡ word32 file at → set l n word ≡ set l n (word32 file at)
+word-set l file n at word e = ap (set l n) e
+
+pub four-sets : (file l l1 l2 l3 l4 : List ℕ) (n at : ℕ)
+    → l1 ≡ set l n (word32 file at)
+    → l2 ≡ set l1 (n + 1) (word32 file (at + 4))
+    → l3 ≡ set l2 (n + 2) (word32 file (at + 8))
+    → l4 ≡ set l3 (n + 3) (word32 file (at + 12))
+    → l4 ≡ sets l n (immediateAt file at)
+four-sets file l l1 l2 l3 l4 n at s1 s2 s3 s4 =
     let e1 : n + 1 ≡ suc n = omega arith in
     let e2 : n + 2 ≡ suc (suc n) = omega arith in
     let e3 : n + 3 ≡ suc (suc (suc n)) = omega arith in
-    rw (e1, e2, e3, ea, eb, ec, ed)
+    rw (s4, s3, s2, s1, e1, e2, e3)
 
 pub count-words : (words : List ℕ) (n : ℕ) → n ≤ 256 → Padded n words → length (take (4 * n) words) ≡ 4 * n
 count-words words n h s =

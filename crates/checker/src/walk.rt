@@ -87,7 +87,7 @@ fn declaration(s: State, file: &[u8], at: usize, next: usize) -> Taken
 }
 
 // The immediate at a place, which is followed by the place `next`.
-fn immediate(s: State, file: &[u8], at: usize, next: usize, words: &mut [u32]) -> Taken
+fn immediate(s: State, file: &[u8], at: usize, next: usize, words: &mut [u32; 1024]) -> Taken
     requires { ⌜ Sound s × (at ≤ 65536) × (next ≤ 65536) × (next ≡ at + sizeAt (now file) at) × Padded (s .program .immediates) (now words) ⌝ }
     ensures found { λ r. ⌜ ((values : List ℕ) → findingOf r (now (words .exit)) values ≡ immediateFinding (seen s (now (words .entry)) values) (now (file .entry)) at) ⌝ }
     ensures sound { λ r. ⌜ Sound (r .state) × Padded (r .state .program .immediates) (now (words .exit)) × (r .state .blocks ≡ s .blocks) ⌝ }
@@ -166,7 +166,7 @@ fn after_nesting(s: State, n: Nested) -> Taken
 // An instruction of a kind to which none of 6, 7 and 9 applies; for a CASE x is its word.
 fn nested_instruction(
     s: State,
-    values: &mut [u32],
+    values: &mut [u32; 1024],
     links: &mut [u16; 2048],
     kind: u8,
     x: u32,
@@ -184,8 +184,8 @@ fn instruction(
     s: State,
     file: &[u8],
     at: usize,
-    words: &[u32],
-    values: &mut [u32],
+    words: &[u32; 1024],
+    values: &mut [u32; 1024],
     links: &mut [u16; 2048],
 ) -> Taken
     requires { ⌜ Sound s × (at ≤ 65536) × Padded (s .program .immediates) (now words) × Trees (s .blocks) (now values) (now links) ⌝ }
@@ -210,8 +210,8 @@ fn record(
     s: State,
     file: &[u8],
     at: usize,
-    words: &mut [u32],
-    values: &mut [u32],
+    words: &mut [u32; 1024],
+    values: &mut [u32; 1024],
     links: &mut [u16; 2048],
 ) -> Taken
     requires { ⌜ Sound s × (at ≤ length (now file)) × (length (now file) ≤ 65536) × Padded (s .program .immediates) (now words) × Trees (s .blocks) (now values) (now links) ⌝ }
@@ -287,8 +287,8 @@ fn take_turn(
     s: State,
     file: &[u8],
     at: usize,
-    words: &mut [u32],
-    values: &mut [u32],
+    words: &mut [u32; 1024],
+    values: &mut [u32; 1024],
     links: &mut [u16; 2048],
 ) -> Turn
     requires { ⌜ Sound s × (at < length (now file)) × (length (now file) ≤ 65536) × Padded (s .program .immediates) (now words) × Trees (s .blocks) (now values) (now links) ⌝ }
@@ -307,7 +307,12 @@ fn take_turn(
 
 // The whole check. The immediates' words go to the first of `words`, which are 0 before; `values` holds the words of CASEs,
 // `links` the links of their trees.
-pub fn walk(file: &[u8], words: &mut [u32], values: &mut [u32], links: &mut [u16; 2048]) -> Checked
+pub fn walk(
+    file: &[u8],
+    words: &mut [u32; 1024],
+    values: &mut [u32; 1024],
+    links: &mut [u16; 2048],
+) -> Checked
     requires { ⌜ Padded 0 (now words) × (length (now values) ≡ 1024) × (length (now links) ≡ 2048) ⌝ }
     ensures found { λ r. ⌜ outcome r (now (words .exit)) ≡ checkOf (now (file .entry)) ⌝ }
     ensures told { λ r. ⌜ told (r .verdict) ≡ toldOf (checkOf (now (file .entry))) ⌝ }

@@ -11,5 +11,4 @@ take-turn-spec =
     (λ c κs. search needs)
     (search needs)
     (λ c κs. search needs)
-    (search needs) (search needs)
     (λ c. (search (needs, turned), (search needs, search needs, search needs))))
