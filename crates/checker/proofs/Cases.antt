@@ -8,8 +8,9 @@ use Rattle.format.specs.Kinds.{lengthOf}
 use Rattle.format.specs.Records.{sizeAt}
 use Rattle.format.specs.Fields.{word16, word32, destinationAt, sourceAt, declarationAt, caseWord}
 use Rattle.blocks.specs.Control.{opOf}
-use Rattle.checker.specs.Rules.{destinationRule, sourceRule, declarationRule, allOperands}
-use Rattle.checker.specs.Findings.{withDeclaration, declarationFinding, withImmediate, immediateFinding, sourceFound, operandsFound, withInstruction, instructionFinding, recordFinding}
+use Rattle.registers.specs.Rules.{destinationRule, sourceRule, declarationRule, allOperands}
+use Rattle.registers.specs.Found.{sourceFound, operandsFound}
+use Rattle.checker.specs.Findings.{withDeclaration, declarationFinding, withImmediate, immediateFinding, withInstruction, instructionFinding, recordFinding}
 use Rattle.checker.specs.Check.{follows, breaks, toldOf, walk, checkOf}
 
 -- "11. Empty file: 13 at 0."

@@ -17,8 +17,9 @@ use Rattle.format.specs.Fields.{declarationAt, caseWord}
 use Rattle.format.proofs.Walk.{place-step}
 use Rattle.blocks.specs.Control.{Op, END, is, opOf}
 use Rattle.blocks.specs.Nesting.{accepts}
-use Rattle.checker.specs.Rules.{declarationRule}
-use Rattle.checker.specs.Findings.{Seen, nothing, Finding, taken, due, overlaps, withDeclaration, declarationFinding, withImmediate, immediateFinding, withInstruction, recordFinding}
+use Rattle.registers.specs.Rules.{declarationRule}
+use Rattle.registers.specs.Found.{overlaps}
+use Rattle.checker.specs.Findings.{Seen, nothing, Finding, taken, due, withDeclaration, declarationFinding, withImmediate, immediateFinding, withInstruction, recordFinding}
 use Rattle.checker.specs.Check.{accepted, refused, onward, walk, checkOf}
 use Rattle.checker.proofs.Stack.{op-cases}
 use Rattle.checker.proofs.Walking.{due-not-taken, past-due, taken-whole, taken-declaration, taken-immediate, taken-instruction, Passed, passed}

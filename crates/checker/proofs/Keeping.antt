@@ -1,28 +1,25 @@
 -- What is kept of a program: after a declaration, and after an immediate, whose four words stand behind those before it.
 -- Assumes nothing.
 use mathlib.Core.Path.{_≡_, refl, sym, ap, _∙_}
-use mathlib.Core.Bool.{Bool, true, false, _&&_, _||_}
+use mathlib.Core.Bool.{true, cond}
 use mathlib.Core.List.{List, [], _++_}
 use Prim.Native.Nat.{ℕ, zero, suc, _+_, _-_, _*_, _<_, _≤_}
 use native.Mathlib.Omega.{arith}
 use native.Mathlib.Nat.{max-eq-left, max-eq-right, min-eq-left, zero-add, suc-add}
-use lib.Dec.{eqb, leb, ltb}
 use lib.ListN.{length, set, take, drop, replicate, length-take, length-append}
 use lib.Seq.{sets, sets-eq, length-sets, drop-drop, drop-at, take-at}
-use borrow.Author.Tests.{eq-eqb, ne-eqb, leb-true, ltb-true}
-use Rattle.format.specs.Kinds.{within}
+use borrow.Author.Tests.{eq-eqb, ne-eqb}
 use Rattle.format.specs.Records.{sizeAt}
 use Rattle.format.specs.Fields.{word32}
 use Rattle.format.specs.declared.fields.Declaration.{Declaration}
 use Rattle.blocks.specs.Nesting.{Open}
-use Rattle.checker.specs.Sets.{IN, CONST, none, isIn, withRange, registersOf}
-use Rattle.checker.specs.Rules.{declarationRule}
+use Rattle.registers.specs.Sets.{IN, CONST, none, isIn, withRange}
+use Rattle.registers.specs.Rules.{declarationRule}
+use Rattle.registers.specs.declared.sets.Declared.{Declared}
 use Rattle.checker.specs.Findings.{nothing, reach, withDeclaration, immediateAt, withImmediate}
 use Rattle.checker.specs.Check.{programSeen}
 use Rattle.checker.specs.Held.{Padded}
 use Rattle.checker.specs.declared.program.Program.{Program}
-use Rattle.checker.specs.declared.sets.Declared.{Declared}
-use Rattle.checker.proofs.Choices.{never}
 
 -- ---- Declarations
 
@@ -36,29 +33,15 @@ module _ (f before end : ℕ) (d : Declaration) where
   pub reach-same : d .file ≡ f → d .last + 1 < before → before ≡ reach f d before
   reach-same e h = rw (eq-eqb _ _ e) (sym (max-eq-left (omega arith)))
 
-both : (a b c : Bool) → (a && b && c) ≡ true → (b ≡ true) × (c ≡ true)
-both true true true e = (refl, refl)
-both true true false e = (refl, e)
-both true false c e = never e
-both false b c e = never e
-
-module _ (d : Declaration) (h : declarationRule d ≡ true) where
-  pub rule-order : d .first ≤ d .last
-  unfolding declarationRule
-  rule-order = leb-true (d .first) (d .last) (both (within 1 5 (d .file) || eqb (d .file) 7) (leb (d .first) (d .last)) (ltb (d .last) (registersOf (d .file))) h .0)
-
-  pub rule-last : d .last < registersOf (d .file)
-  unfolding declarationRule
-  rule-last = ltb-true (d .last) (registersOf (d .file)) (both (within 1 5 (d .file) || eqb (d .file) 7) (leb (d .first) (d .last)) (ltb (d .last) (registersOf (d .file))) h .1)
-
 pub kept-declaration : (p : Program) (words : List ℕ) (blocks : List Open) (d : Declaration) (next i k : ℕ) (e : Declared)
-    → isIn e ≡ withRange (isIn (p .declared)) (d .file) (d .first) (d .last)
+    → declarationRule d ≡ true
+    → isIn e ≡ cond (declarationRule d) (withRange (isIn (p .declared)) (d .file) (d .first) (d .last)) (isIn (p .declared))
     → i ≡ reach IN d (p .inputs)
     → k ≡ reach CONST d (p .constants)
     → programSeen (record { declared = e; immediates = p .immediates; inputs = i; constants = k; start = next; instructions = p .instructions }) words blocks
     ≡ withDeclaration (programSeen p words blocks) d next
 unfolding withDeclaration
-kept-declaration p words blocks d next i k e a b c = rw (a, b, c)
+kept-declaration p words blocks d next i k e h a b c = rw (a, h, b, c)
 
 pub kept-nothing : (words : List ℕ) (e : Declared) → isIn e ≡ none
     → programSeen (record { declared = e; immediates = 0; inputs = 0; constants = 0; start = 0; instructions = 0 }) words [] ≡ nothing
@@ -66,13 +49,20 @@ kept-nothing words e a = rw a
 
 -- ---- Immediates
 
-pub four-sets : (l file : List ℕ) (n at a b c d : ℕ) → a ≡ word32 file at → b ≡ word32 file (at + 4) → c ≡ word32 file (at + 8) → d ≡ word32 file (at + 12)
-    → set (set (set (set l n a) (n + 1) b) (n + 2) c) (n + 3) d ≡ sets l n (immediateAt file at)
-four-sets l file n at a b c d ea eb ec ed =
+pub word-set : (l file : List ℕ) (n at word : ℕ) → word ≡ word32 file at → set l n word ≡ set l n (word32 file at)
+word-set l file n at word e = ap (set l n) e
+
+pub four-sets : (file l l1 l2 l3 l4 : List ℕ) (n at : ℕ)
+    → l1 ≡ set l n (word32 file at)
+    → l2 ≡ set l1 (n + 1) (word32 file (at + 4))
+    → l3 ≡ set l2 (n + 2) (word32 file (at + 8))
+    → l4 ≡ set l3 (n + 3) (word32 file (at + 12))
+    → l4 ≡ sets l n (immediateAt file at)
+four-sets file l l1 l2 l3 l4 n at s1 s2 s3 s4 =
     let e1 : n + 1 ≡ suc n = omega arith in
     let e2 : n + 2 ≡ suc (suc n) = omega arith in
     let e3 : n + 3 ≡ suc (suc (suc n)) = omega arith in
-    rw (e1, e2, e3, ea, eb, ec, ed)
+    rw (s4, s3, s2, s1, e1, e2, e3)
 
 pub count-words : (words : List ℕ) (n : ℕ) → n ≤ 256 → Padded n words → length (take (4 * n) words) ≡ 4 * n
 count-words words n h s =

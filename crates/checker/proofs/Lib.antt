@@ -1,7 +1,3 @@
-pub mod Choices
-pub mod Bits
-pub mod Files
-pub mod Sources
 pub mod Stack
 pub mod Opening
 pub mod Search

@@ -14,10 +14,10 @@ use borrow.Author.Tests.{leb-false, not-false}
 use Rattle.format.specs.Kinds.{within}
 use Rattle.blocks.specs.Control.{CASE, DEFAULT, opOf}
 use Rattle.blocks.specs.Nesting.{Open, isUif, anySwitch, innermost, nestingRule, switchRule, opens, openAfter, goes, refused, rule}
+use Rattle.registers.proofs.Choices.{never}
 use Rattle.checker.specs.Held.{openOf, newestFirst, blocksIn, blocksOf, topCode, topStart, topValues, Stacked, SoundBlocks}
 use Rattle.checker.specs.declared.nesting.Blocks.{Blocks}
-use Rattle.checker.proofs.Choices.{never, pred}
-use Rattle.checker.proofs.Stack.{code-cases, op-cases, label-by, blocks-length}
+use Rattle.checker.proofs.Stack.{pred, code-cases, op-cases, label-by, blocks-length}
 
 -- ---- What lies below
 

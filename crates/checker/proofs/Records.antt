@@ -12,8 +12,9 @@ use Rattle.format.specs.Kinds.{lengthOf}
 use Rattle.format.specs.Records.{sizeAt}
 use Rattle.format.specs.Fields.{declarationAt}
 use Rattle.format.specs.declared.fields.Declaration.{Declaration}
-use Rattle.checker.specs.Rules.{declarationRule}
-use Rattle.checker.specs.Findings.{Seen, Finding, taken, due, overlaps, withDeclaration, declarationFinding, withImmediate, immediateFinding, instructionFinding, recordFinding}
+use Rattle.registers.specs.Rules.{declarationRule}
+use Rattle.registers.specs.Found.{overlaps}
+use Rattle.checker.specs.Findings.{Seen, Finding, taken, due, withDeclaration, declarationFinding, withImmediate, immediateFinding, instructionFinding, recordFinding}
 
 module _ (s : Seen) (file : List ℕ) (at : ℕ) where
   -- ---- Declarations

@@ -12,7 +12,7 @@ use Rattle.checker.specs.Held.{topStart, Stacked, Treed, SoundBlocks, Tr
 use Rattle.checker.specs.Tree.{placeIn, hung, Tree}
 use Rattle.checker.specs.declared.nesting.Blocks.{Blocks}
 use Rattle.checker.specs.declared.tree.Place.{Place}
-use Rattle.checker.proofs.Choices.{pred}
+use Rattle.checker.proofs.Stack.{pred}
 use Rattle.checker.proofs.Trees.{tree-none, tree-same, tree-more, hung-below, length-hung}
 
 -- ---- The innermost tree

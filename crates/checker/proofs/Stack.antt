@@ -4,17 +4,23 @@
 use mathlib.Core.Path.{_≡_, refl, sym, ap, _∙_, subst}
 use mathlib.Core.Bool.{Bool, true, false, not, _&&_, _||_}
 use mathlib.Core.List.{List}
-use Prim.Native.Nat.{ℕ, zero, suc, _+_, _-_, _<_, _≤_}
+use Prim.Native.Nat.{ℕ, zero, suc, _-_, _<_, _≤_}
 use native.Mathlib.Omega.{arith}
 use lib.Dec.{eqb}
 use lib.ListN.{length, getD}
-use borrow.Author.Tests.{eq-eqb, ne-eqb}
 use Rattle.format.specs.Kinds.{within}
 use Rattle.blocks.specs.Control.{PLAIN, opOf}
 use Rattle.blocks.specs.Nesting.{Open, isUif, isElse, isLoop, isSwitch, anySwitch, some, innermost, nestingRule, switchRule, opens}
+use Rattle.registers.proofs.Choices.{when-number, and-false}
 use Rattle.checker.specs.Held.{openOf, newestFirst, blocksIn, blocksOf, topCode, topStart, topValues, someCode, Stacked, SoundBlocks}
 use Rattle.checker.specs.declared.nesting.Blocks.{Blocks}
-use Rattle.checker.proofs.Choices.{when-number, and-true, and-false, pred}
+
+and-true : (a : Bool) → (a && true) ≡ a
+and-true true = refl
+and-true false = refl
+
+pub pred : (n : ℕ) → (n ≡ 0 → ⊥) → n ≡ suc (n - 1)
+pred n h = omega arith
 
 -- ---- Kinds
 

@@ -13,9 +13,10 @@ use Rattle.format.specs.Fields.{caseWord}
 use Rattle.format.proofs.Walk.{size-fits}
 use Rattle.blocks.specs.Control.{opOf}
 use Rattle.blocks.specs.Nesting.{goes, refused, rule}
-use Rattle.checker.specs.Rules.{operandRules}
-use Rattle.checker.specs.Sets.{isIn}
-use Rattle.checker.specs.Findings.{nothing, Finding, due, operandsFound, withInstruction, nested, instructionFinding}
+use Rattle.registers.specs.Rules.{operandRules}
+use Rattle.registers.specs.Sets.{isIn}
+use Rattle.registers.specs.Found.{operandsFound}
+use Rattle.checker.specs.Findings.{nothing, Finding, due, withInstruction, nested, instructionFinding}
 use Rattle.checker.specs.Check.{programSeen}
 use Rattle.checker.specs.Held.{Stacked, blocksOf, rulingOf, seen, findingOf, operandRefusal, instructed, takenBy, takenOf, Padded, SoundBlocks, Treed, Trees, Sound}
 use Rattle.checker.specs.declared.nesting.Blocks.{Blocks}

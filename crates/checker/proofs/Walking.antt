@@ -7,23 +7,25 @@ use Prim.Native.Nat.{ℕ, zero, suc, _+_, _-_, _*_, _<_, _≤_}
 use native.Mathlib.Omega.{arith}
 use lib.Dec.{eqb, leb, ltb, eqb·suc-zero}
 use lib.ListN.{length, getD, take, replicate, take-append-drop}
-use borrow.Author.Tests.{lt-ltb, le-ltb, leb-false, eq-eqb, ne-eqb, eqb-false}
+use borrow.Author.Tests.{lt-ltb, le-ltb, leb-false, eq-eqb, ne-eqb, eqb-true, eqb-false}
 use Rattle.format.specs.Kinds.{lengthOf}
 use Rattle.format.specs.Records.{longest, sizeAt}
 use Rattle.format.specs.Fields.{caseWord}
 use Rattle.blocks.specs.Control.{opOf}
 use Rattle.blocks.specs.Nesting.{Open, Ruling, goes, rule}
 use Rattle.blocks.specs.Nesting as nesting
-use Rattle.checker.specs.Rules.{operandRules}
-use Rattle.checker.specs.Findings.{Seen, nothing, Finding, taken, due, operandsFound, nested, withInstruction, declarationFinding, immediateFinding, instructionFinding, recordFinding}
+use Rattle.registers.specs.Rules.{operandRules}
+use Rattle.registers.specs.Found.{operandsFound}
+use Rattle.checker.specs.Findings.{Seen, nothing, Finding, taken, due, nested, withInstruction, declarationFinding, immediateFinding, instructionFinding, recordFinding}
 use Rattle.checker.specs.Check.{Outcome, accepted, refused, onward, walk, checkOf, breaks, told, toldOf, programSeen, concluded, outcome, wordsAfter}
-use Rattle.checker.specs.Held.{blocksOf, Padded, seen, endOf, Tells, Turned}
+use Rattle.checker.specs.Held.{blocksOf, Padded, seen, endOf, wayAfter, Tells, Turned}
 use Rattle.checker.specs.declared.Checked.{Checked}
 use Rattle.checker.specs.declared.Verdict.{Verdict}
 use Rattle.checker.specs.declared.Verdict.the-variants.{Accepted, Refused}
 use Rattle.checker.specs.declared.program.Program.{Program}
 use Rattle.checker.specs.declared.walk.State.{State}
 use Rattle.checker.specs.declared.walk.Turn.{Turn}
+use Rattle.checker.specs.declared.walk.Way.{Way}
 use Rattle.checker.specs.declared.walk.Way.the-variants.{On, Ended}
 use Rattle.checker.proofs.Keeping.{count-words}
 
@@ -95,38 +97,8 @@ end-closed s file at u found e =
 
 -- ---- A turn of the walk
 
-module _ (s : Seen) (file : List ℕ) (at m : ℕ) (t : State) (words values : List ℕ) (found : cond (eqb m 0) (taken (seen t words values)) (due m) ≡ recordFinding s file at) where
-  pub turn-refused : (rest : Seen → Outcome) → (m ≡ 0 → ⊥) → refused m at ≡ onward (recordFinding s file at) file at rest
-  turn-refused rest z = rw (← found, ne-eqb m 0 z)
-
-  module _ (z : m ≡ 0) where
-    is-taken : recordFinding s file at ≡ taken (seen t words values)
-    is-taken = sym (rw (eq-eqb m 0 z) at found)
-
-    pub turn-whole : sizeAt file at ≡ 0 → ⊥
-    turn-whole = taken-whole s file at (seen t words values) is-taken
-
-    module _ (kind : ℕ) (here : kind ≡ getD file at 0) (rest : Seen → Outcome) where
-      on-by : (kind ≡ 0x89 → ⊥) → rest (seen t words values) ≡ onward (recordFinding s file at) file at rest
-      on-by e = rw (is-taken, ← here, ne-eqb kind 0x89 e)
-
-      -- At END no block is open.
-      pub turn-ends : (v : Verdict) → v ≡ endOf (t .program .instructions) at (length file) → kind ≡ 0x89
-          → concluded v (programSeen (t .program) words []) ≡ onward (recordFinding s file at) file at rest
-      unfolding seen endOf
-      turn-ends v q e = rw (q, is-taken, ← here, eq-eqb kind 0x89 e) (by (ltb (at + 1) (length file))) where
-        closed : blocksOf (t .blocks) values ≡ []
-        closed = end-closed s file at (seen t words values) is-taken (sym here ∙ e)
-
-        by : (b : Bool) → concluded (cond b (Refused 2 (at + 1)) (Accepted (t .program .instructions))) (programSeen (t .program) words []) ≡ cond b (refused 2 (at + 1)) (accepted (seen t words values))
-        by true = refl
-        by false = ap (λ (σ : List Open). accepted (programSeen (t .program) words σ)) (sym closed)
-
-pub turn-on : (rest : Seen → Outcome) (s : Seen) (file : List ℕ) (at m : ℕ) (t : State) (words values : List ℕ)
-    → cond (eqb m 0) (taken (seen t words values)) (due m) ≡ recordFinding s file at
-    → m ≡ 0
-    → (kind : ℕ) → kind ≡ getD file at 0 → (kind ≡ 0x89 → ⊥) → rest (seen t words values) ≡ onward (recordFinding s file at) file at rest
-turn-on rest s file at m t words values found z kind here e = on-by s file at m t words values found z kind here rest e
+not-on : {A : Type 0} {v : Verdict} → Ended v ≡ On → A
+not-on e = let z : _≡_ {A = ℕ} 0 1 = cc in absurd (omega arith)
 
 module _ (n at end : ℕ) where
   pub end-follows : at + 1 < end → Refused 2 (at + 1) ≡ endOf n at end
@@ -137,20 +109,64 @@ module _ (n at end : ℕ) where
   unfolding endOf
   end-last h = rw (le-ltb (at + 1) end h)
 
-pub not-on : {A : Type 0} {v : Verdict} → Ended v ≡ On → A
-not-on e = let z : _≡_ {A = ℕ} 0 1 = cc in absurd (omega arith)
+  end-tells : Tells (endOf n at end) n
+  unfolding endOf
+  end-tells = by (ltb (at + 1) end) where
+    by : (b : Bool) → Tells (cond b (Refused 2 (at + 1)) (Accepted n)) n
+    by true = tt
+    by false = refl
+
+module _ (m kind n at end : ℕ) where
+  pub way-refused : (m ≡ 0 → ⊥) → Ended (Refused m at) ≡ wayAfter m kind n at end
+  unfolding wayAfter
+  way-refused z = rw (ne-eqb m 0 z)
+
+  pub way-on : m ≡ 0 → (kind ≡ 0x89 → ⊥) → On ≡ wayAfter m kind n at end
+  unfolding wayAfter
+  way-on z e = rw (eq-eqb m 0 z, ne-eqb kind 0x89 e)
+
+  pub way-ends : (v : Verdict) → m ≡ 0 → kind ≡ 0x89 → v ≡ endOf n at end → Ended v ≡ wayAfter m kind n at end
+  unfolding wayAfter
+  way-ends v z e q = rw (eq-eqb m 0 z, eq-eqb kind 0x89 e, q)
+
+module _ (s : Seen) (file : List ℕ) (at m kind : ℕ) (t : State) (words values : List ℕ)
+    (found : cond (eqb m 0) (taken (seen t words values)) (due m) ≡ recordFinding s file at)
+    (here : kind ≡ getD file at 0)
+  where
+    is-taken : eqb m 0 ≡ true → recordFinding s file at ≡ taken (seen t words values)
+    is-taken z = sym (rw z at found)
+
+    -- At END no block is open.
+    ends : eqb m 0 ≡ true → eqb kind 0x89 ≡ true → concluded (endOf (t .program .instructions) at (length file)) (programSeen (t .program) words [])
+        ≡ cond (ltb (at + 1) (length file)) (refused 2 (at + 1)) (accepted (seen t words values))
+    unfolding seen endOf
+    ends z e = by (ltb (at + 1) (length file)) where
+      closed : blocksOf (t .blocks) values ≡ []
+      closed = end-closed s file at (seen t words values) (is-taken z) (sym here ∙ eqb-true kind 0x89 e)
+
+      by : (b : Bool) → concluded (cond b (Refused 2 (at + 1)) (Accepted (t .program .instructions))) (programSeen (t .program) words []) ≡ cond b (refused 2 (at + 1)) (accepted (seen t words values))
+      by true = refl
+      by false = ap (λ (σ : List Open). accepted (programSeen (t .program) words σ)) (sym closed)
+
+    pub turned : (w : Way) → w ≡ wayAfter m kind (t .program .instructions) at (length file) → Turned s file at (record { state = t; way = w }) words values
+    unfolding wayAfter
+    turned w q = rw q (by (eqb m 0) refl (eqb kind 0x89) refl) where
+      by : (a : Bool) → eqb m 0 ≡ a → (b : Bool) → eqb kind 0x89 ≡ b
+          → Turned s file at (record { state = t; way = cond a (cond b (Ended (endOf (t .program .instructions) at (length file))) On) (Ended (Refused m at)) }) words values
+      by false z b e = record { leads = λ rest. rw (← found, z); whole = λ o. not-on o; tells = tt }
+      by true z false e =
+          record { leads = λ rest. rw (is-taken z, ← here, e); whole = λ o. taken-whole s file at (seen t words values) (is-taken z); tells = tt }
+      by true z true e =
+          record {
+            leads = λ rest. rw (is-taken z, ← here, e) (ends z e);
+            whole = λ o. not-on o;
+            tells = end-tells (t .program .instructions) at (length file);
+          }
 
 -- What is told goes by the outcome.
 pub tells : (v : Verdict) (file words : List ℕ) (p : Program) → Tells v (p .instructions) → concluded v (programSeen p words []) ≡ checkOf file → told v ≡ toldOf (checkOf file)
 tells (Accepted n) file words p h e = rw h (ap toldOf e)
 tells (Refused n q) file words p h e = ap toldOf e
-
-pub end-tells : (v : Verdict) (n at end : ℕ) → v ≡ endOf n at end → Tells v n
-unfolding endOf
-end-tells v n at end e = rw e (by (ltb (at + 1) end)) where
-  by : (b : Bool) → Tells (cond b (Refused 2 (at + 1)) (Accepted n)) n
-  by true = tt
-  by false = refl
 
 -- ---- The walk
 

@@ -7,7 +7,7 @@ use lib.Dec.{eqb, ltb}
 use lib.ListN.{length, getD, take, replicate}
 use Rattle.format.specs.Records.{longest, sizeAt}
 use Rattle.blocks.specs.Nesting.{Open}
-use Rattle.checker.specs.Sets.{isIn}
+use Rattle.registers.specs.Sets.{isIn}
 use Rattle.checker.specs.Findings.{Seen, nothing, Finding, taken, due, recordFinding}
 use Rattle.checker.specs.declared.Verdict.{Verdict}
 use Rattle.checker.specs.declared.Verdict.the-variants.{Accepted, Refused}

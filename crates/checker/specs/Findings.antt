@@ -1,22 +1,21 @@
 -- What has been seen of a program, and what is found of its next record: it is taken, or the lowest number of a refusal that
 -- applies to it is due.
 -- Assumes nothing.
-use Prim.Native.Nat.{ℕ, _+_, _-_, _*_, max}
+use Prim.Native.Nat.{ℕ, _+_, _*_, max}
 use mathlib.Core.List.{List, [], _∷_, _++_}
-use mathlib.Core.Bool.{Bool, cond, not, _&&_, _||_}
+use mathlib.Core.Bool.{cond, not}
 use lib.Dec.{eqb, leb, ltb}
 use lib.ListN.{length, getD}
 use Rattle.format.specs.Kinds.{lengthOf}
 use Rattle.format.specs.Records.{sizeAt}
 use Rattle.format.specs.Fields.{word32, declarationAt, caseWord}
-use Rattle.format.specs.declared.fields.Destination.{Destination}
-use Rattle.format.specs.declared.fields.Source.{Source}
 use Rattle.format.specs.declared.fields.Declaration.{Declaration}
 use Rattle.blocks.specs.Control.{opOf}
 use Rattle.blocks.specs.Run.{mostInstructions}
 use Rattle.blocks.specs.Nesting.{Open, Ruling, goes, refused, rule}
-use Rattle.checker.specs.Sets.{Registers, none, withRange, anyOf, registersOf, CONST, IN, ADDR, IMM, MEM}
-use Rattle.checker.specs.Rules.{indirect, memoryKind, allOperands, operandRules, declarationRule}
+use Rattle.registers.specs.Sets.{Registers, none, withRange, CONST, IN}
+use Rattle.registers.specs.Rules.{operandRules, declarationRule}
+use Rattle.registers.specs.Found.{overlaps, operandsFound}
 
 -- What has been seen so far: the declared registers; the immediates' words in order, four each; one more than the highest
 -- declared IN and CONST, 0 for none; where the instructions begin, which is after the last declaration or immediate; how many
@@ -60,10 +59,6 @@ withDeclaration s d next =
       blocks = s .blocks;
     }
 
--- "declaration overlaps an earlier one of its file"
-abbrev pub overlaps : Registers → Declaration → Bool
-overlaps declared d = anyOf (declared (d .file)) (d .first) (d .last + 1 - d .first)
-
 unfoldable pub declarationFinding : Seen → List ℕ → ℕ → Finding
 declarationFinding s file at =
     let d : Declaration = declarationAt file (at + 1) in
@@ -95,27 +90,6 @@ immediateFinding s file at =
     (taken (withImmediate s file at)))
 
 -- ---- Instructions
-
--- "direct operand not declared, or no such immediate", the immediates having so many words
-abbrev pub directFound : Registers → ℕ → ℕ → ℕ → Bool
-directFound declared words f i = cond (eqb f IMM) (ltb (4 * i) words) (declared f i)
-
--- "indirect with ADDR or the whole file undeclared"
-abbrev pub indirectFound : Registers → ℕ → Bool
-indirectFound declared f = declared ADDR 0 && anyOf (declared f) 0 (registersOf f)
-
-abbrev pub destinationFound : Registers → Destination → Bool
-destinationFound declared d = declared (d .file) (d .index)
-
-unfoldable pub sourceFound : Registers → ℕ → Source → Bool
-sourceFound declared words s =
-    cond (indirect s) (indirectFound declared (s .file)) (directFound declared words (s .file) (s .index))
-
--- Where this fails an instruction is refused with 9, "memory kind without MEM" too.
-unfoldable pub operandsFound : ℕ → Registers → ℕ → List ℕ → ℕ → Bool
-operandsFound kind declared words file at =
-    allOperands kind (destinationFound declared) (sourceFound declared words) file at
-    && (not (memoryKind kind) || declared MEM 0)
 
 unfoldable pub withInstruction : Seen → List Open → Seen
 withInstruction s blocks =

@@ -10,11 +10,12 @@ use Rattle.format.specs.Kinds.{within}
 use Rattle.format.specs.Records.{sizeAt}
 use Rattle.blocks.specs.Run.{mostInstructions}
 use Rattle.blocks.specs.Nesting.{Open, openUif, openElse, openLoop, openSwitch, Ruling, goes, refused, mostOpen}
-use Rattle.checker.specs.Sets.{isIn}
-use Rattle.checker.specs.Rules.{operandRules}
-use Rattle.checker.specs.Findings.{Seen, Finding, taken, due, mostImmediates, operandsFound, recordFinding}
+use Rattle.registers.specs.Sets.{isIn}
+use Rattle.registers.specs.Rules.{operandRules}
+use Rattle.registers.specs.Found.{operandsFound}
+use Rattle.checker.specs.Findings.{Seen, Finding, taken, due, mostImmediates, recordFinding}
 use Rattle.checker.specs.Tree.{Tree}
-use Rattle.checker.specs.Check.{Outcome, onward, programSeen, concluded}
+use Rattle.checker.specs.Check.{Outcome, END, onward, programSeen, concluded}
 use Rattle.checker.specs.declared.Verdict.{Verdict}
 use Rattle.checker.specs.declared.Verdict.the-variants.{Accepted, Refused}
 use Rattle.checker.specs.declared.nesting.Blocks.{Blocks}
@@ -129,6 +130,11 @@ takenOf s n = takenBy (eqb (n .refusal) 0) s n
 -- What an END at a place comes to in a file of this length: refusal 2, or an accepted program.
 unfoldable pub endOf : ℕ → ℕ → ℕ → Verdict
 endOf instructions at end = cond (ltb (at + 1) end) (Refused 2 (at + 1)) (Accepted instructions)
+
+-- How the walk goes on after a record of this kind at a place, of which this number was found.
+unfoldable pub wayAfter : ℕ → ℕ → ℕ → ℕ → ℕ → Way
+wayAfter refusal kind instructions at end =
+    cond (eqb refusal 0) (cond (eqb kind END) (Ended (endOf instructions at end)) On) (Ended (Refused refusal at))
 
 -- What the walk comes to after a turn, `rest` standing for the rest of it.
 abbrev pub goesOn : Way → Seen → Seen → (Seen → Outcome) → Outcome

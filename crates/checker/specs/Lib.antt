@@ -1,5 +1,3 @@
-pub mod Sets
-pub mod Rules
 pub mod Findings
 pub mod Check
 pub mod Tree

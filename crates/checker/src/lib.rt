@@ -5,9 +5,7 @@ ghost use Prim.Native.Nat.{_≤_};
 ghost use Rattle.checker.specs.Check.{checkOf, told, toldOf, outcome, wordsAfter};
 
 mod nesting;
-mod operands;
 pub mod program;
-pub mod sets;
 mod tree;
 mod walk;
 

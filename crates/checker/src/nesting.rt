@@ -109,7 +109,7 @@ fn nesting_kept(b: Blocks, kind: u8) -> bool
 }
 
 // Whether an instruction of a kind keeps the rules of a SWITCH: else 11. For a CASE x is its word.
-fn switch_kept(b: Blocks, values: &[u32], links: &[u16; 2048], kind: u8, x: u32) -> bool
+fn switch_kept(b: Blocks, values: &[u32; 1024], links: &[u16; 2048], kind: u8, x: u32) -> bool
     requires { ⌜ SoundBlocks b × (b .held ≤ 1024) × Trees b (now values) (now links) ⌝ }
     ensures { λ r. ⌜ r ≡ switchRule (opOf kind) x (blocksOf b (now (values .entry))) ⌝ }
 {
@@ -170,7 +170,7 @@ fn recoded(b: Blocks, code: u8) -> Blocks
 }
 
 // The blocks with one word more for the innermost, which is a SWITCH.
-fn labelled(b: Blocks, values: &mut [u32], links: &mut [u16; 2048], x: u32) -> Blocks
+fn labelled(b: Blocks, values: &mut [u32; 1024], links: &mut [u16; 2048], x: u32) -> Blocks
     requires { ⌜ SoundBlocks b × (b .held < 1024) × (within 3 4 (topCode (b .codes) (b .depth)) ≡ true) × Trees b (now values) (now links) ⌝ }
     ensures { λ r. ⌜ (blocksOf r (now (values .exit)) ≡ openAfter CASE x (blocksOf b (now (values .entry)))) × SoundBlocks r × (r .held ≤ b .held + 1) × Trees r (now (values .exit)) (now (links .exit)) ⌝ }
 {
@@ -184,7 +184,13 @@ fn labelled(b: Blocks, values: &mut [u32], links: &mut [u16; 2048], x: u32) -> B
 }
 
 // The blocks that are open after an instruction of a kind that no rule refuses.
-fn open_after(b: Blocks, values: &mut [u32], links: &mut [u16; 2048], kind: u8, x: u32) -> Blocks
+fn open_after(
+    b: Blocks,
+    values: &mut [u32; 1024],
+    links: &mut [u16; 2048],
+    kind: u8,
+    x: u32,
+) -> Blocks
     requires { ⌜ SoundBlocks b × (b .held < 1024) × (nestingRule (opOf kind) (blocksOf b (now values)) ≡ true) × (opens (opOf kind) ≡ true → b .depth < 16) × Trees b (now values) (now links) ⌝ }
     ensures { λ r. ⌜ (blocksOf r (now (values .exit)) ≡ openAfter (opOf kind) x (blocksOf b (now (values .entry)))) × SoundBlocks r × (r .held ≤ b .held + 1) × Trees r (now (values .exit)) (now (links .exit)) ⌝ }
 {
@@ -203,7 +209,13 @@ fn open_after(b: Blocks, values: &mut [u32], links: &mut [u16; 2048], kind: u8, 
 }
 
 // What the rules say of an instruction of a kind; for a CASE x is its word.
-pub fn nest(b: Blocks, values: &mut [u32], links: &mut [u16; 2048], kind: u8, x: u32) -> Nested
+pub fn nest(
+    b: Blocks,
+    values: &mut [u32; 1024],
+    links: &mut [u16; 2048],
+    kind: u8,
+    x: u32,
+) -> Nested
     requires { ⌜ SoundBlocks b × (b .held < 1024) × Trees b (now values) (now links) ⌝ }
     ensures { λ r. ⌜ (rulingOf r (now (values .exit)) ≡ rule (opOf kind) x (blocksOf b (now (values .entry)))) × SoundBlocks (r .blocks) × (r .blocks .held ≤ b .held + 1) × Trees (r .blocks) (now (values .exit)) (now (links .exit)) × ((r .refusal ≡ 0 → ⊥) → r .blocks ≡ b) ⌝ }
 {

@@ -4,10 +4,10 @@ use crate::Verdict;
 use crate::nesting;
 use crate::nesting::Blocks;
 use crate::nesting::Nested;
-use crate::operands;
 use crate::program;
 use crate::program::Program;
-use crate::sets;
+use registers::operands;
+use registers::sets;
 ghost use mathlib.Core.Path.{_≡_};
 ghost use mathlib.Core.List.{List};
 ghost use Prim.Native.Nat.{ℕ, _+_, _*_, _<_, _≤_};
@@ -19,7 +19,7 @@ ghost use Rattle.blocks.specs.Nesting.{rule};
 ghost use Rattle.checker.specs.Findings.{nothing, nested, declarationFinding, immediateFinding, instructionFinding, recordFinding};
 ghost use Rattle.checker.specs.Check.{checkOf, told, toldOf, outcome};
 ghost use Rattle.checker.specs.declared.Verdict.the-variants.{Refused};
-ghost use Rattle.checker.specs.Held.{blocksOf, seen, findingOf, operandRefusal, takenOf, endOf, Turned, Sound, Padded, Trees};
+ghost use Rattle.checker.specs.Held.{blocksOf, seen, findingOf, operandRefusal, takenOf, endOf, wayAfter, Turned, Sound, Padded, Trees};
 
 // What the checker knows after some records.
 pub struct State {
@@ -65,14 +65,14 @@ fn declaration(s: State, file: &[u8], at: usize, next: usize) -> Taken
         };
     }
     let d = format::fields::declaration_at(file, at + 1);
-    if !operands::declaration_allowed(d) {
+    if !sets::declaration_allowed(d) {
         return Taken {
             refusal: 7,
             state: s,
         };
     }
     let declared = p.declared;
-    if sets::is_any_declared(declared, d.file, d.first as usize, d.last as usize) {
+    if sets::overlaps(declared, d) {
         return Taken {
             refusal: 8,
             state: s,
@@ -87,7 +87,7 @@ fn declaration(s: State, file: &[u8], at: usize, next: usize) -> Taken
 }
 
 // The immediate at a place, which is followed by the place `next`.
-fn immediate(s: State, file: &[u8], at: usize, next: usize, words: &mut [u32]) -> Taken
+fn immediate(s: State, file: &[u8], at: usize, next: usize, words: &mut [u32; 1024]) -> Taken
     requires { ⌜ Sound s × (at ≤ 65536) × (next ≤ 65536) × (next ≡ at + sizeAt (now file) at) × Padded (s .program .immediates) (now words) ⌝ }
     ensures found { λ r. ⌜ ((values : List ℕ) → findingOf r (now (words .exit)) values ≡ immediateFinding (seen s (now (words .entry)) values) (now (file .entry)) at) ⌝ }
     ensures sound { λ r. ⌜ Sound (r .state) × Padded (r .state .program .immediates) (now (words .exit)) × (r .state .blocks ≡ s .blocks) ⌝ }
@@ -114,8 +114,8 @@ fn immediate(s: State, file: &[u8], at: usize, next: usize, words: &mut [u32]) -
 }
 
 // The lowest of 6, 7 and 9 that applies to an instruction of a kind at a place, 0 for none.
-fn operand_refusal(p: Program, kind: u8, file: &[u8], at: usize) -> u8
-    requires { ⌜ (at ≤ 65536) × (p .immediates ≤ 256) ⌝ }
+fn operand_refusal(p: Program, kind: u8, file: &[u8], at: u32) -> u8
+    requires { ⌜ p .immediates ≤ 256 ⌝ }
     ensures { λ r. ⌜ r ≡ operandRefusal p kind (now (file .entry)) at ⌝ }
 {
     if MOST_INSTRUCTIONS <= p.instructions {
@@ -166,7 +166,7 @@ fn after_nesting(s: State, n: Nested) -> Taken
 // An instruction of a kind to which none of 6, 7 and 9 applies; for a CASE x is its word.
 fn nested_instruction(
     s: State,
-    values: &mut [u32],
+    values: &mut [u32; 1024],
     links: &mut [u16; 2048],
     kind: u8,
     x: u32,
@@ -184,8 +184,8 @@ fn instruction(
     s: State,
     file: &[u8],
     at: usize,
-    words: &[u32],
-    values: &mut [u32],
+    words: &[u32; 1024],
+    values: &mut [u32; 1024],
     links: &mut [u16; 2048],
 ) -> Taken
     requires { ⌜ Sound s × (at ≤ 65536) × Padded (s .program .immediates) (now words) × Trees (s .blocks) (now values) (now links) ⌝ }
@@ -194,7 +194,7 @@ fn instruction(
 {
     let p = s.program;
     let kind = format::fields::byte_at(file, at);
-    let number = operand_refusal(p, kind, file, at);
+    let number = operand_refusal(p, kind, file, at as u32);
     if number != 0 {
         return Taken {
             refusal: number,
@@ -210,8 +210,8 @@ fn record(
     s: State,
     file: &[u8],
     at: usize,
-    words: &mut [u32],
-    values: &mut [u32],
+    words: &mut [u32; 1024],
+    values: &mut [u32; 1024],
     links: &mut [u16; 2048],
 ) -> Taken
     requires { ⌜ Sound s × (at ≤ length (now file)) × (length (now file) ≤ 65536) × Padded (s .program .immediates) (now words) × Trees (s .blocks) (now values) (now links) ⌝ }
@@ -260,6 +260,20 @@ fn end_verdict(instructions: u32, at: usize, end: usize) -> Verdict
     Verdict::Accepted(instructions)
 }
 
+// How the walk goes on after a record of a kind at a place, of which this number was found, in a file of this length.
+fn way_after(refusal: u8, kind: u8, instructions: u32, at: usize, end: usize) -> Way
+    requires { ⌜ at < 65536 ⌝ }
+    ensures { λ r. ⌜ r ≡ wayAfter refusal kind instructions at end ⌝ }
+{
+    if refusal != 0 {
+        return Way::Ended(Verdict::Refused(refusal, at as u32));
+    }
+    if kind != END {
+        return Way::On;
+    }
+    Way::Ended(end_verdict(instructions, at, end))
+}
+
 // What a file of this length comes to that ends without END.
 fn unended(end: usize) -> Verdict
     requires { ⌜ end ≤ 65536 ⌝ }
@@ -273,8 +287,8 @@ fn take_turn(
     s: State,
     file: &[u8],
     at: usize,
-    words: &mut [u32],
-    values: &mut [u32],
+    words: &mut [u32; 1024],
+    values: &mut [u32; 1024],
     links: &mut [u16; 2048],
 ) -> Turn
     requires { ⌜ Sound s × (at < length (now file)) × (length (now file) ≤ 65536) × Padded (s .program .immediates) (now words) × Trees (s .blocks) (now values) (now links) ⌝ }
@@ -283,29 +297,22 @@ fn take_turn(
 {
     let taken = record(s, file, at, words, values, links);
     let state = taken.state;
-    if taken.refusal != 0 {
-        return Turn {
-            state,
-            way: Way::Ended(Verdict::Refused(taken.refusal, at as u32)),
-        };
-    }
-    if format::fields::byte_at(file, at) != END {
-        return Turn {
-            state,
-            way: Way::On,
-        };
-    }
-    let program = taken.state.program;
-    let verdict = end_verdict(program.instructions, at, file.len());
+    let program = state.program;
+    let kind = format::fields::byte_at(file, at);
     Turn {
         state,
-        way: Way::Ended(verdict),
+        way: way_after(taken.refusal, kind, program.instructions, at, file.len()),
     }
 }
 
 // The whole check. The immediates' words go to the first of `words`, which are 0 before; `values` holds the words of CASEs,
 // `links` the links of their trees.
-pub fn walk(file: &[u8], words: &mut [u32], values: &mut [u32], links: &mut [u16; 2048]) -> Checked
+pub fn walk(
+    file: &[u8],
+    words: &mut [u32; 1024],
+    values: &mut [u32; 1024],
+    links: &mut [u16; 2048],
+) -> Checked
     requires { ⌜ Padded 0 (now words) × (length (now values) ≡ 1024) × (length (now links) ≡ 2048) ⌝ }
     ensures found { λ r. ⌜ outcome r (now (words .exit)) ≡ checkOf (now (file .entry)) ⌝ }
     ensures told { λ r. ⌜ told (r .verdict) ≡ toldOf (checkOf (now (file .entry))) ⌝ }

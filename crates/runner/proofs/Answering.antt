@@ -18,11 +18,11 @@ use Rattle.blocks.specs.Reading.{Reading, reading}
 use Rattle.blocks.specs.Run.{mostInstructions}
 use Rattle.blocks.specs.Table.{rowIn, placeIn, rowWords}
 use Rattle.blocks.proofs.Correct.{Final, run-final}
+use Rattle.registers.specs.Sets.{isIn}
 use Rattle.checker.specs.declared.Checked.{Checked}
 use Rattle.checker.specs.declared.Verdict.the-variants.{Accepted, Refused}
 use Rattle.checker.specs.Check.{accepted, refused, checkOf, programSeen, outcome, concluded, wordsAfter}
 use Rattle.checker.specs.Findings.{Seen}
-use Rattle.checker.specs.Sets.{isIn}
 use Rattle.checker.proofs.Followed.{followed}
 use Rattle.effects.specs.Effect.{state}
 use Rattle.machine.specs.Bank.{envIn}

@@ -13,9 +13,10 @@ use Rattle.blocks.specs.Lists.{listFrom}
 use Rattle.blocks.specs.Prepared.{tableWords}
 use Rattle.blocks.specs.Reading.{read, past, rounds, reading}
 use Rattle.blocks.specs.Table.{firstLabel, rows, table, wordsOf}
+use Rattle.registers.specs.Found.{sourceFound, operandsFound}
+use Rattle.registers.specs.Rules.{destinationRule, sourceRule, allOperands, declarationRule}
 use Rattle.checker.specs.Check.{walk, checkOf}
-use Rattle.checker.specs.Findings.{withDeclaration, declarationFinding, withImmediate, immediateFinding, sourceFound, operandsFound, withInstruction, instructionFinding, recordFinding}
-use Rattle.checker.specs.Rules.{destinationRule, sourceRule, allOperands, declarationRule}
+use Rattle.checker.specs.Findings.{withDeclaration, declarationFinding, withImmediate, immediateFinding, withInstruction, instructionFinding, recordFinding}
 use Rattle.effects.specs.Destinations.{components, ifMasked, masked, firstWord, writtenAt}
 use Rattle.effects.specs.Arithmetic.{unary, binary, ternary, resultWord, resultWords, wide, halves, countOr, wideOf}
 use Rattle.effects.specs.Effect.{familyOf}

@@ -10,9 +10,9 @@ use borrow.Author.Tests.{ltb-true, ltb-false, eqb-true}
 use lib.Dec.{eqb, ltb}
 use lib.ListN.{length, getD, take, List·getD-append, List·getD-eq-default}
 use lib.Seq.{getD-append-add, take-all}
-use Rattle.checker.specs.declared.sets.Declared.{Declared}
-use Rattle.checker.specs.Sets.{isIn}
-use Rattle.checker.specs.Sets as sets
+use Rattle.registers.specs.declared.sets.Declared.{Declared}
+use Rattle.registers.specs.Sets.{isIn}
+use Rattle.registers.specs.Sets as sets
 use Rattle.machine.specs.Operands.{bitIn, declaredIn}
 use Rattle.runner.specs.Whole.{askedIndirectly}
 use Rattle.runner.proofs.Copies.{copy-end}

@@ -1,14 +1,14 @@
 // What is lent to a run: the refusal that is due for it, the registers cleared, and the bank that the machine reads.
 use blocks::table::ROW_WORDS;
 use checker::program::Program;
-use checker::sets::Declared;
 use machine::bank::Bank;
+use registers::sets::Declared;
 ghost use mathlib.Core.Path.{_≡_};
 ghost use mathlib.Core.List.{[], _++_};
 ghost use Prim.Native.Nat.{_+_, _≤_, _<_};
 ghost use lib.ListN.{length, getD, take};
 ghost use Rattle.checker.specs.Check.{programSeen};
-ghost use Rattle.checker.specs.Sets.{isIn};
+ghost use Rattle.registers.specs.Sets.{isIn};
 ghost use Rattle.machine.specs.Bank.{envIn};
 ghost use Rattle.machine.specs.Operands.{declaredIn};
 ghost use Rattle.runner.specs.Whole.{lentRefusal, cleared, askedIndirectly, envWith};

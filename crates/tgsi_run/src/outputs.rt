@@ -1,6 +1,6 @@
 // The OUT registers that a program declares, a line each.
-use checker::sets;
-use checker::sets::Declared;
+use registers::sets;
+use registers::sets::Declared;
 
 const OUT: u8 = 3;
 

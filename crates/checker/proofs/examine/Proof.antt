@@ -8,8 +8,6 @@ pub examine-spec : {M : Type 1} → statement M
 examine-spec =
     tie.close
     (tie.spec
-    (λ c. search needs)
-    (λ c. search needs)
     (λ c κs. search needs)
     (search needs) (search needs)
     (λ c. (search needs, (search needs, (search (needs, lent-accepted), search needs))))

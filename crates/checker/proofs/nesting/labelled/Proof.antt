@@ -12,5 +12,5 @@ labelled-spec =
     (λ c κs. search needs)
     (λ c κs. search (needs, top-tree))
     (λ c κs. search needs)
-    (search needs) (search needs) (search needs) (search needs)
+    (search needs) (search needs) (search needs)
     (λ c. (search (needs, labelled-blocks), search (needs, labelled-stacked), search needs, search (needs, labelled-trees))))

@@ -28,6 +28,5 @@ open-after-spec =
     (λ c. (search (needs, after-by 0x88, c .popped3 .ensures .0), search needs, search needs, search (needs, c .popped3 .ensures .3)))
     (λ c. (search (needs, after-by 0x90, c .pushed2 .ensures .0), search needs, search needs, search (needs, c .pushed2 .ensures .3)))
     (λ c. (search (needs, after-by 0x91, c .pushed3 .ensures .0), search needs, search needs, search (needs, c .pushed3 .ensures .3)))
-    (search needs)
     (λ c. (search (needs, after-by 0x92), search needs, search needs, search needs))
     (λ c. (search (needs, after-others), search needs, search needs, search needs)))

@@ -1,6 +1,6 @@
 -- The registers are declared, and each number is the definition's.
 use borrow.Author.Needs.{needs}
-use Rattle.checker.proofs.Keeping.{rule-order, rule-last, kept-declaration}
+use Rattle.checker.proofs.Keeping.{kept-declaration}
 use Rattle.checker.proofs.program.with_declaration.Statement.{statement}
 use Rattle.checker.proofs.program.with_declaration.Tie as tie
 
@@ -8,7 +8,5 @@ pub with-declaration-spec : {M : Type 1} → statement M
 with-declaration-spec =
     tie.close
     (tie.spec
-    (search needs) (search needs)
-    (λ c κs. search (needs, rule-order, rule-last))
-    (search needs) (search needs) (search needs)
+    (search needs) (search needs) (search needs) (search needs)
     (λ c. ((λ words blocks. search (needs, kept-declaration)), search needs, search needs)))

@@ -9,5 +9,4 @@ with-immediate-spec =
     tie.close
     (tie.spec
     (search needs) (search needs) (search needs) (search needs) (search needs) (search needs)
-    (search needs)
     (λ c. ((λ blocks. search (needs, kept-immediate)), search (needs, padded-after), search needs, search needs)))

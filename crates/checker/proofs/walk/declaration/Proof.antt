@@ -16,7 +16,6 @@ declaration-spec =
     (λ c κs. search needs)
     (λ c κs. search needs)
     (λ c. ((λ words values. search (needs, declaration-7)), (search needs, search needs, search needs)))
-    (search needs) (search needs)
     (λ c κs. search needs)
     (λ c. ((λ words values. search (needs, declaration-8)), (search needs, search needs, search needs)))
     (λ c κs. search (needs, kept-rule))

@@ -14,5 +14,4 @@ immediate-spec =
     (λ c. ((λ values. search (needs, immediate-5)), (search needs, search needs, search needs)))
     (λ c. ((λ values. search (needs, immediate-6, immediates-counted)), (search needs, search needs, search needs)))
     (λ c κs. search needs)
-    (search needs)
-    (λ c. ((λ values. search (needs, immediate-taken, immediates-counted, c .before .before .with-immediate .ensures .0)), (search (needs, sound-immediate), search needs, search needs))))
+    (λ c. ((λ values. search (needs, immediate-taken, immediates-counted, c .with-immediate .ensures .0)), (search (needs, sound-immediate), search needs, search needs))))

@@ -9,9 +9,9 @@ instruction-spec =
     tie.close
     (tie.spec
     (λ c κs. search needs)
+    (search needs)
     (λ c κs. search needs)
     (λ c. (search (needs, refused-operands), (search needs, search needs, search needs)))
     (λ c κs. search needs)
     (λ c κs. search (needs, room-left))
-    (search needs)
-    (λ c. (search (needs, nested-found, c .before .before .nested-instruction .ensures .0), (search needs, search needs, search needs))))
+    (λ c. (search (needs, nested-found, c .nested-instruction .ensures .0), (search needs, search needs, search needs))))

@@ -11,5 +11,4 @@ nested-instruction-spec =
     (tie.spec
     (λ c κs. (search needs, omega arith, search needs))
     (λ c κs. search needs)
-    (search needs)
     (λ c. ((λ words. search (needs, nested-says)), (search (needs, nested-sound), search (needs, nested-immediates), search (needs, nested-trees)))))

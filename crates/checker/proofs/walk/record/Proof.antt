@@ -21,7 +21,5 @@ record-spec =
     (λ c κs. search (needs, next-is, next-small))
     (λ c κs. search needs)
     (λ c. (search (needs, record-declaration, c .declaration .ensures .0), (search needs, search (needs, padded-same), search (needs, trees-same))))
-    (search needs)
-    (λ c. (search (needs, record-immediate, c .before .before .immediate .ensures .0), (search needs, search needs, search (needs, trees-same))))
-    (search needs) (search needs)
+    (λ c. (search (needs, record-immediate, c .immediate .ensures .0), (search needs, search needs, search (needs, trees-same))))
     (λ c. (search (needs, record-instruction), (search needs, search (needs, padded-same), search needs))))

@@ -1,0 +1,87 @@
+-- Register files, sets of registers, and the words that hold such a set, one bit a register.
+-- Assumes nothing.
+use Prim.Native.Nat.{ℕ, zero, suc, _/_, _%_, _^_}
+use mathlib.Core.List.{List, []}
+use mathlib.Core.Bool.{Bool, false, cond, _||_}
+use lib.Dec.{eqb}
+use lib.ListN.{getD}
+use Rattle.format.specs.Kinds.{within}
+use Rattle.registers.specs.declared.sets.Declared.{Declared}
+
+-- "1 CONST 0-1023, 2 IN 0-31, 3 OUT 0-31, 4 TEMP 0-255, 5 ADDR 0, 6 IMM (.. not declared), 7 MEM 0." (01, Register files)
+abbrev pub CONST : ℕ
+CONST = 1
+
+abbrev pub IN : ℕ
+IN = 2
+
+abbrev pub OUT : ℕ
+OUT = 3
+
+abbrev pub TEMP : ℕ
+TEMP = 4
+
+abbrev pub ADDR : ℕ
+ADDR = 5
+
+abbrev pub IMM : ℕ
+IMM = 6
+
+abbrev pub MEM : ℕ
+MEM = 7
+
+-- How many registers of a file can be declared.
+abbrev pub registersOf : ℕ → ℕ
+registersOf f =
+    cond (eqb f CONST) 1024
+    (cond (eqb f IN) 32
+    (cond (eqb f OUT) 32
+    (cond (eqb f TEMP) 256
+    (cond (eqb f ADDR) 1
+    (cond (eqb f MEM) 1
+    0)))))
+
+-- A set of registers: whether register i of file f is a member.
+abbrev pub Registers : Type 0
+Registers = ℕ → ℕ → Bool
+
+abbrev pub none : Registers
+none f i = false
+
+-- Numbers with one more, and with those from first to last more.
+abbrev pub withOne : (ℕ → Bool) → ℕ → ℕ → Bool
+withOne p i j = eqb j i || p j
+
+abbrev pub withAll : (ℕ → Bool) → ℕ → ℕ → ℕ → Bool
+withAll p first last j = within first last j || p j
+
+-- The set with the registers of a file from first to last more.
+abbrev pub withRange : Registers → ℕ → ℕ → ℕ → Registers
+withRange s file first last f i = cond (eqb f file) (withAll (s f) first last i) (s f i)
+
+-- Whether one of n numbers from first on is as asked.
+abbrev pub anyOf : (ℕ → Bool) → ℕ → ℕ → Bool
+anyOf asked first zero = false
+anyOf asked first (suc n) = asked first || anyOf asked (suc first) n
+
+-- "The checker keeps which registers of each file are declared, one bit each." (01, Register files)
+abbrev pub wordsOf : Declared → ℕ → List ℕ
+wordsOf d f =
+    cond (eqb f CONST) (d .consts)
+    (cond (eqb f IN) (d .ins)
+    (cond (eqb f OUT) (d .outs)
+    (cond (eqb f TEMP) (d .temps)
+    (cond (eqb f ADDR) (d .addr)
+    (cond (eqb f MEM) (d .mem)
+    [])))))
+
+-- Bit k of a word, and bit i of words of 32 bits.
+unfoldable pub bit : ℕ → ℕ → Bool
+bit word k = eqb (word / 2 ^ k % 2) 1
+
+unfoldable pub bitIn : List ℕ → ℕ → Bool
+bitIn words i = bit (getD words (i / 32) 0) (i % 32)
+
+-- The registers that the checker's words say are declared.
+unfoldable pub isIn : Declared → Registers
+isIn d f i = bitIn (wordsOf d f) i

@@ -1,0 +1,233 @@
+// Which registers of each file are declared, one bit each, in a struct of word arrays that goes by value; and declarations,
+// which name registers of a file.
+use format::fields::Declaration;
+ghost use mathlib.Core.Path.{_≡_};
+ghost use mathlib.Core.Bool.{cond};
+ghost use Prim.Native.Nat.{_<_, _≤_, _+_, _-_, _*_};
+ghost use lib.ListN.{length};
+ghost use Rattle.registers.specs.Sets.{bit, bitIn, isIn, none, withOne, withAll, withRange, anyOf, registersOf};
+ghost use Rattle.registers.specs.Rules.{declarationRule};
+ghost use Rattle.registers.specs.Found.{overlaps};
+
+pub struct Declared {
+    pub consts: [u32; 32],
+    pub ins: [u32; 1],
+    pub outs: [u32; 1],
+    pub temps: [u32; 8],
+    pub addr: [u32; 1],
+    pub mem: [u32; 1],
+}
+
+// No register is declared.
+pub fn empty() -> Declared
+    ensures { λ r. ⌜ isIn r ≡ none ⌝ }
+{
+    Declared {
+        consts: [0; 32],
+        ins: [0; 1],
+        outs: [0; 1],
+        temps: [0; 8],
+        addr: [0; 1],
+        mem: [0; 1],
+    }
+}
+
+// How many registers of a file can be declared.
+fn registers_of(file: u8) -> usize
+    ensures { λ r. ⌜ r ≡ registersOf file ⌝ }
+{
+    match file {
+        1 => 1024,
+        2 => 32,
+        3 => 32,
+        4 => 256,
+        5 => 1,
+        7 => 1,
+        _ => 0,
+    }
+}
+
+// Bit i of words of 32 bits, false past the end.
+fn has(words: &[u32], i: usize) -> bool
+    ensures { λ r. ⌜ r ≡ bitIn (now (words .entry)) i ⌝ }
+{
+    let w = i / 32;
+    if w < words.len() {
+        (words[w] >> (i % 32) as u32) % 2 == 1
+    } else {
+        false
+    }
+}
+
+// Whether a bit from first to last is set.
+fn has_any(words: &[u32], first: u16, last: u16) -> bool
+    ensures { λ r. ⌜ r ≡ anyOf (bitIn (now (words .entry))) first (last + 1 - first) ⌝ }
+{
+    let end = last as usize;
+    let mut i = first as usize;
+    while i <= end {
+        if has(words, i) {
+            return true;
+        }
+        i += 1;
+    }
+    false
+}
+
+// Whether a word has a bit set.
+fn has_bits(word: u32) -> bool
+    ensures { λ r. ⌜ r ≡ anyOf (bit word) 0 32 ⌝ }
+{
+    word != 0
+}
+
+// Whether any bit is set at all.
+fn has_some(words: &[u32]) -> bool
+    ensures { λ r. ⌜ r ≡ anyOf (bitIn (now (words .entry))) 0 (32 * length (now (words .entry))) ⌝ }
+{
+    let mut i = 0;
+    while i < words.len() {
+        if has_bits(words[i]) {
+            return true;
+        }
+        i += 1;
+    }
+    false
+}
+
+// Sets bit i.
+fn set_bit(words: &mut [u32], i: usize)
+    requires { ⌜ i < 32 * length (now words) ⌝ }
+    ensures { λ r. ⌜ bitIn (now (words .exit)) ≡ withOne (bitIn (now (words .entry))) i ⌝ }
+{
+    let w = i / 32;
+    words[w] = words[w] | (1u32 << (i % 32) as u32);
+}
+
+// Sets the bits from first to last.
+fn set_bits(words: &mut [u32], first: u16, last: u16)
+    requires { ⌜ (first ≤ last) × (last < 32 * length (now words)) ⌝ }
+    ensures { λ r. ⌜ bitIn (now (words .exit)) ≡ withAll (bitIn (now (words .entry))) first last ⌝ }
+{
+    let end = last as usize;
+    let mut i = first as usize;
+    while i <= end {
+        set_bit(words, i);
+        i += 1;
+    }
+}
+
+// Whether a register is declared.
+pub fn is_declared(d: Declared, file: u8, index: usize) -> bool
+    ensures { λ r. ⌜ r ≡ isIn d file index ⌝ }
+{
+    match file {
+        1 => has(&d.consts, index),
+        2 => has(&d.ins, index),
+        3 => has(&d.outs, index),
+        4 => has(&d.temps, index),
+        5 => has(&d.addr, index),
+        7 => has(&d.mem, index),
+        _ => false,
+    }
+}
+
+// Whether some register of a file is declared.
+pub fn is_file_declared(d: Declared, file: u8) -> bool
+    ensures { λ r. ⌜ r ≡ anyOf (isIn d file) 0 (registersOf file) ⌝ }
+{
+    match file {
+        1 => has_some(&d.consts),
+        2 => has_some(&d.ins),
+        3 => has_some(&d.outs),
+        4 => has_some(&d.temps),
+        5 => has(&d.addr, 0),
+        7 => has(&d.mem, 0),
+        _ => false,
+    }
+}
+
+// Whether a declaration names registers that its file has.
+pub fn declaration_allowed(d: Declaration) -> bool
+    ensures { λ r. ⌜ r ≡ declarationRule d ⌝ }
+{
+    let file = d.file;
+    (((1 <= file) & (file <= 5)) | (file == 7))
+        & (d.first <= d.last)
+        & ((d.last as usize) < registers_of(file))
+}
+
+// Whether a declaration names a register that is declared.
+pub fn overlaps(d: Declared, more: Declaration) -> bool
+    ensures { λ r. ⌜ r ≡ overlaps (isIn d) more ⌝ }
+{
+    let first = more.first;
+    let last = more.last;
+    let file = more.file;
+    match file {
+        1 => has_any(&d.consts, first, last),
+        2 => has_any(&d.ins, first, last),
+        3 => has_any(&d.outs, first, last),
+        4 => has_any(&d.temps, first, last),
+        5 => has_any(&d.addr, first, last),
+        7 => has_any(&d.mem, first, last),
+        _ => false,
+    }
+}
+
+// The set with the registers of a file from first to last more.
+fn with_range(d: Declared, file: u8, first: u16, last: u16) -> Declared
+    requires { ⌜ (first ≤ last) × (last < registersOf file) ⌝ }
+    ensures { λ r. ⌜ isIn r ≡ withRange (isIn d) file first last ⌝ }
+{
+    let mut e = d;
+    match file {
+        1 => {
+            let mut words = d.consts;
+            set_bits(&mut words, first, last);
+            e.consts = words;
+            e
+        }
+        2 => {
+            let mut words = d.ins;
+            set_bits(&mut words, first, last);
+            e.ins = words;
+            e
+        }
+        3 => {
+            let mut words = d.outs;
+            set_bits(&mut words, first, last);
+            e.outs = words;
+            e
+        }
+        4 => {
+            let mut words = d.temps;
+            set_bits(&mut words, first, last);
+            e.temps = words;
+            e
+        }
+        5 => {
+            let mut words = d.addr;
+            set_bits(&mut words, first, last);
+            e.addr = words;
+            e
+        }
+        7 => {
+            let mut words = d.mem;
+            set_bits(&mut words, first, last);
+            e.mem = words;
+            e
+        }
+        _ => e,
+    }
+}
+
+// The set with the registers more that a declaration names; where the declaration breaks its rule, the set as it is.
+pub fn declare(d: Declared, more: Declaration) -> Declared
+    ensures { λ r. ⌜ isIn r ≡ cond (declarationRule more) (withRange (isIn d) (more .file) (more .first) (more .last)) (isIn d) ⌝ }
+{
+    if !declaration_allowed(more) {
+        return d;
+    }
+    with_range(d, more.file, more.first, more.last)
+}
