@@ -1,9 +1,9 @@
 -- Effects: what is written is the result of the kind's family.
 -- Assumes nothing.
 use Rattle.effects.specs.Effect.{Family, WORDS, WIDE-UNARY, LOAD, WIDE, STORE, ATOMIC, ATOMCAS, NONE, effectOf, exchange, familyOf, result, state, xOf}
-use Rattle.effects.specs.Destinations.{State, components, firstWord, written, writtenAt}
+use Rattle.effects.specs.Destinations.{State, components, firstWord, writtenAt}
 use Rattle.words.specs.Word.{cas}
-use Rattle.effects.specs.Arithmetic.{atomic}
+use Rattle.effects.specs.Arithmetic.{atomic, wideOf, wideUnaryOf}
 use Rattle.effects.specs.Memory.{loaded, loadedFrom, stored, storedFrom}
 use Rattle.format.proofs.Ranges.{every, in-range}
 use Prim.Native.Nat.{_-_, _<_, _≤_, ℕ}
@@ -14,36 +14,37 @@ use borrow.Author.Tests.{ne-eqb}
 use lib.Dec.{T, eqb, eqb→eq}
 use Rattle.format.specs.declared.fields.Destination.{Destination}
 
-pub words-are : (d : Destination) (r m l v : List ℕ) (first : ℕ) → first ≡ firstWord d → l ≡ writtenAt r first (d .mask) v → state l m ≡ result d (state r m) v
-words-are d r m l v first e h = cc
+-- what is written to the register of the destination
+module _ (d : Destination) (r m l : List ℕ) (first : ℕ) (ef : first ≡ firstWord d) where
+  pub words-are : (v : List ℕ) → l ≡ writtenAt r first (d .mask) v → state l m ≡ result d (state r m) v
+  words-are v h = cc
 
--- what is made of sources, which are handed over one by one
-pub made-of-one : (f : ℕ → List ℕ → List ℕ) (k : ℕ) (d : Destination) (r m l a x v : List ℕ) → a ≡ x → v ≡ f k a → l ≡ written r d v
-    → state l m ≡ result d (state r m) (f k x)
-made-of-one f k d r m l a x v ea ev h = cc
+  pub wide-unary-to : (k : ℕ) (a x v : List ℕ) → a ≡ x → v ≡ wideUnaryOf k a → l ≡ writtenAt r first (d .mask) v → state l m ≡ result d (state r m) (wideUnaryOf k x)
+  wide-unary-to k a x v ea ev h = cc
 
-pub made-of-two : (f : ℕ → List ℕ → List ℕ → List ℕ) (k : ℕ) (d : Destination) (r m l a b x y v : List ℕ) → a ≡ x → b ≡ y → v ≡ f k a b → l ≡ written r d v
-    → state l m ≡ result d (state r m) (f k x y)
-made-of-two f k d r m l a b x y v ea eb ev h = cc
+  pub wide-to : (k : ℕ) (a b x y v : List ℕ) → a ≡ x → b ≡ y → v ≡ wideOf k a b → l ≡ writtenAt r first (d .mask) v → state l m ≡ result d (state r m) (wideOf k x y)
+  wide-to k a b x y v ea eb ev h = cc
 
-pub loaded-to : (d : Destination) (r m l v : List ℕ) (a x : ℕ) → a ≡ x → v ≡ loadedFrom m a → l ≡ written r d v → state l m ≡ result d (state r m) (loadedFrom m x)
-loaded-to d r m l v a x ea ev h = cc
+  pub loaded-to : (a x : ℕ) (v : List ℕ) → a ≡ x → v ≡ loadedFrom m a → l ≡ writtenAt r first (d .mask) v → state l m ≡ result d (state r m) (loadedFrom m x)
+  loaded-to a x v ea ev h = cc
+
+  exchange-is : (a : ℕ) (f : ℕ → ℕ) (old : ℕ) (q : List ℕ)
+      → old ≡ loaded m a → q ≡ stored m a (f old) → l ≡ writtenAt r first (d .mask) (old ∷ old ∷ old ∷ old ∷ []) → state l q ≡ exchange d (state r m) a f
+  unfolding components
+  exchange-is a f old q eo eq el = cc
+
+  -- an atomic of kind k, or ATOMCAS, on the x of the sources
+  module _ (k : ℕ) (o : List (List ℕ)) (a b old : ℕ) (q : List ℕ) (ea : a ≡ xOf o 0) (eb : b ≡ xOf o 1) (eo : old ≡ loaded m a)
+      (el : l ≡ writtenAt r first (d .mask) (old ∷ old ∷ old ∷ old ∷ []))
+    where
+      pub atomic-with : q ≡ stored m a (atomic k old b) → state l q ≡ effectOf ATOMIC k d o (state r m)
+      atomic-with h = rw (← ea, ← eb) (exchange-is a (λ w. atomic k w b) old q eo h el)
+
+      pub cas-with : (c : ℕ) → c ≡ xOf o 2 → q ≡ stored m a (cas old b c) → state l q ≡ effectOf ATOMCAS k d o (state r m)
+      cas-with c ec h = rw (← ea, ← eb, ← ec) (exchange-is a (λ w. cas w b c) old q eo h el)
 
 pub stored-to : (r m n : List ℕ) (a x mask : ℕ) (v y : List ℕ) → a ≡ x → v ≡ y → n ≡ storedFrom m a mask v → state r n ≡ state r (storedFrom m x mask y)
 stored-to r m n a x mask v y ea ev h = cc
-
-module _ (k : ℕ) (d : Destination) (o : List (List ℕ)) (s t : State) (a b : ℕ) (ea : a ≡ xOf o 0) (eb : b ≡ xOf o 1) where
-  pub atomic-with : t ≡ exchange d s a (λ old. atomic k old b) → t ≡ effectOf ATOMIC k d o s
-  atomic-with h = rw (← ea, ← eb) h
-
-  pub cas-with : (c : ℕ) → c ≡ xOf o 2 → t ≡ exchange d s a (λ old. cas old b c) → t ≡ effectOf ATOMCAS k d o s
-  cas-with c ec h = rw (← ea, ← eb, ← ec) h
-
-pub exchange-is : (d : Destination) (r m : List ℕ) (a : ℕ) (f : ℕ → ℕ) (old new : ℕ) (l q : List ℕ)
-    → old ≡ loaded m a → new ≡ f old → q ≡ stored m a new → l ≡ written r d (old ∷ old ∷ old ∷ old ∷ [])
-    → state l q ≡ exchange d (state r m) a f
-unfolding components
-exchange-is d r m a f old new l q eo en eq el = cc
 
 -- ---- the family of a kind
 

@@ -1,6 +1,6 @@
 -- Results written to the components of a mask, in registers and in memory.
 -- Assumes nothing.
-use Rattle.effects.specs.Destinations.{components, firstWord, ifMasked, masked, placed, written, writtenAt}
+use Rattle.effects.specs.Destinations.{components, firstWord, ifMasked, masked, placed, writtenAt}
 use Rattle.effects.specs.Memory.{loaded, loadedFrom, stored, storedFrom}
 use Rattle.effects.specs.Arithmetic.{sourceWord, resultWord, resultWords}
 use Rattle.words.specs.Word.{bit}
@@ -51,19 +51,16 @@ module _ (first mask : ℕ) (v r : List ℕ) where
   unfolding writtenAt
   all-written l h e = rw (le-leb (first + 4) (length r) h) e
 
-pub written-is : (d : Destination) (first : ℕ) (v l x y z w : List ℕ) → first ≡ firstWord d → first + 4 ≤ length l
-    → x ≡ ifMasked (d .mask) 0 (λ i l. set l (first + i) (getD v 0 0)) l
-    → y ≡ ifMasked (d .mask) 1 (λ i l. set l (first + i) (getD v 1 0)) x
-    → z ≡ ifMasked (d .mask) 2 (λ i l. set l (first + i) (getD v 2 0)) y
-    → w ≡ ifMasked (d .mask) 3 (λ i l. set l (first + i) (getD v 3 0)) z
-    → w ≡ written l d v
+pub written-is : (first mask : ℕ) (v l x y z w : List ℕ) → first + 4 ≤ length l
+    → x ≡ ifMasked mask 0 (λ i l. set l (first + i) (getD v 0 0)) l
+    → y ≡ ifMasked mask 1 (λ i l. set l (first + i) (getD v 1 0)) x
+    → z ≡ ifMasked mask 2 (λ i l. set l (first + i) (getD v 2 0)) y
+    → w ≡ ifMasked mask 3 (λ i l. set l (first + i) (getD v 3 0)) z
+    → w ≡ writtenAt l first mask v
 unfolding masked ifMasked
-written-is d first v l x y z w ef h ex ey ez ew =
-    let all : w ≡ masked (d .mask) (placed first v) l = cc in
-    all-written first (d .mask) v l w h all ∙ ap (λ f. writtenAt l f (d .mask) v) ef
-
-pub left-is : (d : Destination) (first : ℕ) (v l : List ℕ) → first ≡ firstWord d → length l < first + 4 → l ≡ written l d v
-left-is d first v l ef h = not-written first (d .mask) v l h ∙ ap (λ f. writtenAt l f (d .mask) v) ef
+written-is first mask v l x y z w h ex ey ez ew =
+    let all : w ≡ masked mask (placed first v) l = cc in
+    all-written first mask v l w h all
 
 -- ---- results on words: after the components below i, those from i on are as they were
 
@@ -130,6 +127,9 @@ module _ (m : List ℕ) (a : ℕ) where
   pub stored-misaligned : (w : ℕ) → (a % 4 ≡ 0 → ⊥) → m ≡ stored m a w
   unfolding stored
   stored-misaligned w h = simp (ne-eqb (a % 4) 0 h)
+
+  pub new-stored : (l : List ℕ) (new w : ℕ) → l ≡ stored m a new → new ≡ w → l ≡ stored m a w
+  new-stored l new w el en = el ∙ ap (stored m a) en
 
   pub loaded-from : (x y z w : ℕ) → x ≡ loaded m a → y ≡ loaded m (a + 4) → z ≡ loaded m (a + 8) → w ≡ loaded m (a + 12) → x ∷ y ∷ z ∷ w ∷ [] ≡ loadedFrom m a
   unfolding loadedFrom components

@@ -16,31 +16,27 @@ use words::order::cas32;
 ghost use mathlib.Core.Path.{_≡_};
 ghost use Prim.Native.Nat.{_<_, _≤_};
 ghost use Rattle.words.specs.Word.{cas};
+ghost use Rattle.effects.specs.Memory.{loaded, stored};
 ghost use Rattle.effects.specs.Arithmetic.{atomic as atomicOf};
-ghost use Rattle.effects.specs.Effect.{state, exchange, familyOf, effectOf};
+ghost use Rattle.effects.specs.Effect.{state, familyOf, effectOf};
 
-fn atomic(kind: u8, d: Destination, address: u32, b: u32, registers: &mut [u32], memory: &mut [u32])
+// Stores what an atomic of this kind makes of the old word and b, and gives the old word.
+fn atomic(kind: u8, memory: &mut [u32], address: u32, b: u32) -> u32
     requires { ⌜ (0x56 ≤ kind) × (kind < 0x60) ⌝ }
-    ensures { λ r. ⌜ state (now (registers .exit)) (now (memory .exit)) ≡ exchange d (state (now (registers .entry)) (now (memory .entry))) address (λ old. atomicOf kind old b) ⌝ }
+    ensures { λ r. ⌜ (r ≡ loaded (now (memory .entry)) address) × (now (memory .exit) ≡ stored (now (memory .entry)) address (atomicOf kind r b)) ⌝ }
 {
     let old = load(memory, address as usize);
     store(memory, address as usize, atomic_word(kind, old, b));
-    write(registers, d, [old, old, old, old]);
+    old
 }
 
-fn atomic_cas(
-    d: Destination,
-    address: u32,
-    b: u32,
-    c: u32,
-    registers: &mut [u32],
-    memory: &mut [u32],
-)
-    ensures { λ r. ⌜ state (now (registers .exit)) (now (memory .exit)) ≡ exchange d (state (now (registers .entry)) (now (memory .entry))) address (λ old. cas old b c) ⌝ }
+// Stores c where the old word is b, and gives the old word.
+fn atomic_cas(memory: &mut [u32], address: u32, b: u32, c: u32) -> u32
+    ensures { λ r. ⌜ (r ≡ loaded (now (memory .entry)) address) × (now (memory .exit) ≡ stored (now (memory .entry)) address (cas r b c)) ⌝ }
 {
     let old = load(memory, address as usize);
     store(memory, address as usize, cas32(old, b, c));
-    write(registers, d, [old, old, old, old]);
+    old
 }
 
 pub fn effect(
@@ -53,42 +49,34 @@ pub fn effect(
     ensures { λ r. ⌜ state (now (registers .exit)) (now (memory .exit)) ≡ effectOf (familyOf kind) kind d (now (sources .entry)) (state (now (registers .entry)) (now (memory .entry))) ⌝ }
 {
     let first = first_word(d);
+    let mask = d.mask;
+    let x = source_word(sources, 0, 0);
     match kind {
-        0x10..=0x1a => write_words(registers, first, d.mask, kind, sources),
-        0x1b..=0x1d => write(registers, d, wide_unary_words(kind, source(sources, 0))),
-        0x1e => write(registers, d, load_from(memory, source_word(sources, 0, 0))),
-        0x20..=0x37 => write_words(registers, first, d.mask, kind, sources),
-        0x40..=0x52 => write(
+        0x10..=0x1a => write_words(registers, first, mask, kind, sources),
+        0x1b..=0x1d => write(
             registers,
-            d,
-            wide_words(kind, source(sources, 0), source(sources, 1)),
+            first,
+            mask,
+            wide_unary_words(kind, source(sources, 0)),
         ),
-        0x58 => store_from(
-            memory,
-            source_word(sources, 0, 0),
-            d.mask,
-            source(sources, 1),
-        ),
-        0x56..=0x5f => atomic(
-            kind,
-            d,
-            source_word(sources, 0, 0),
-            source_word(sources, 1, 0),
-            registers,
-            memory,
-        ),
-        0x60..=0x63 => write_words(registers, first, d.mask, kind, sources),
-        0x64 => {
-            atomic_cas(
-                d,
-                source_word(sources, 0, 0),
-                source_word(sources, 1, 0),
-                source_word(sources, 2, 0),
-                registers,
-                memory,
-            );
+        0x1e => write(registers, first, mask, load_from(memory, x)),
+        0x20..=0x37 => write_words(registers, first, mask, kind, sources),
+        0x40..=0x52 => {
+            let v = wide_words(kind, source(sources, 0), source(sources, 1));
+            write(registers, first, mask, v);
         }
-        0x70 => write_words(registers, first, d.mask, kind, sources),
+        0x58 => store_from(memory, x, mask, source(sources, 1)),
+        0x56..=0x5f => {
+            let old = atomic(kind, memory, x, source_word(sources, 1, 0));
+            write(registers, first, mask, [old, old, old, old]);
+        }
+        0x60..=0x63 => write_words(registers, first, mask, kind, sources),
+        0x64 => {
+            let b = source_word(sources, 1, 0);
+            let old = atomic_cas(memory, x, b, source_word(sources, 2, 0));
+            write(registers, first, mask, [old, old, old, old]);
+        }
+        0x70 => write_words(registers, first, mask, kind, sources),
         _ => {}
     }
 }

@@ -1,6 +1,5 @@
 -- Each arm is the effect of its family: of one kind, or of the kinds of a range.
-use Rattle.effects.proofs.Effects.{atomic-with, cas-with, effect-at, effect-in, loaded-to, made-of-one, made-of-two, stored-to, words-are}
-use Rattle.effects.specs.Arithmetic.{wideOf, wideUnaryOf}
+use Rattle.effects.proofs.Effects.{atomic-with, cas-with, effect-at, effect-in, loaded-to, stored-to, wide-to, wide-unary-to, words-are}
 use Rattle.effects.specs.Effect.{ATOMCAS, ATOMIC, LOAD, NONE, STORE, WIDE, WIDE-UNARY, WORDS, familyOf}
 use mathlib.Core.Path.{refl}
 use borrow.Author.Needs.{needs}
@@ -15,7 +14,7 @@ effect-spec =
     (search needs) (search needs) (search needs) (search needs) (search needs) (search needs) (search needs)
     (search needs) (search needs) (search needs) (search needs) (search needs) (search needs) (search needs)
     (search needs) (search needs) (search needs) (search needs) (search needs) (search needs) (search needs)
-    (search needs) (search needs) (search needs) (search needs) (search needs) (search needs)
+    (search needs) (search needs) (search needs) (search needs) (search needs)
     (λ c. search (needs, effect-at LOAD 0x1e refl, loaded-to))
     (search needs)
     (λ c. search (needs, effect-at STORE 0x58 refl, stored-to))
@@ -27,13 +26,13 @@ effect-spec =
     (search needs)
     (λ c. search (needs, effect-in WORDS 0x10 0x1b tt, words-are))
     (search needs)
-    (λ c. search (needs, effect-in WIDE-UNARY 0x1b 0x1e tt, made-of-one wideUnaryOf))
+    (λ c. search (needs, effect-in WIDE-UNARY 0x1b 0x1e tt, wide-unary-to))
     (λ c. search (needs, effect-in NONE 0x1e 0x20 tt))
     (search needs)
     (λ c. search (needs, effect-in WORDS 0x20 0x38 tt, words-are))
     (λ c. search (needs, effect-in NONE 0x38 0x40 tt))
     (search needs)
-    (λ c. search (needs, effect-in WIDE 0x40 0x53 tt, made-of-two wideOf))
+    (λ c. search (needs, effect-in WIDE 0x40 0x53 tt, wide-to))
     (λ c. search (needs, effect-in NONE 0x53 0x56 tt))
     (search needs) (search needs)
     (λ c. search (needs, effect-in ATOMIC 0x56 0x60 tt, atomic-with))
