@@ -1,6 +1,6 @@
 # make run    proves and builds the program and runs the example
 # make test   all tests; the last line is rt ci's own, 'N passed, 0 failed'
-# make bench  steps per second beside a plain interpreter, and the time of check and prepare
+# make bench  steps per second beside a plain interpreter, as it is and forced inline, and the time of check and prepare
 .PHONY: run test bench clean
 
 run:
@@ -13,6 +13,7 @@ test:
 bench:
 	rt staticlib capi
 	cd compare && cargo build --release --offline && target/release/compare bench
+	cd compare && cargo build --release --offline --features inlined --target-dir target/inlined && target/inlined/release/compare bench
 
 clean:
 	rm -rf target compare/target

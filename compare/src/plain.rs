@@ -1,7 +1,7 @@
 //! A plain bytecode interpreter, the measure of the benchmark: it decodes the file's bytes at each step, finds them
 //! and its way by the prepared table, and allocates nothing while it runs. Checker and table are the second
 //! interpreter's; the benchmark is about steps. It has no hint to the compiler: what is inlined is the compiler's choice, as it
-//! is for the library.
+//! is for the library. With the feature `inlined` its hot functions are forced inline, which Rattle has no word for.
 
 use crate::check::{check, Program};
 use crate::format::*;
@@ -18,7 +18,11 @@ pub struct Plain;
 
 impl Runner for Plain {
     fn name(&self) -> &'static str {
-        "plain interpreter"
+        if cfg!(feature = "inlined") {
+            "plain, inlined"
+        } else {
+            "plain interpreter"
+        }
     }
 
     fn check(&self, file: &[u8]) -> Answer {
@@ -92,6 +96,7 @@ fn word(address: u32, i: usize) -> usize {
 }
 
 /// Four words by component, written out: the arrays' own `map` is not always unrolled.
+#[cfg_attr(feature = "inlined", inline(always))]
 fn four(f: impl Fn(usize) -> u32) -> Register {
     [f(0), f(1), f(2), f(3)]
 }
@@ -135,6 +140,7 @@ impl Interpreter<'_> {
         after
     }
 
+    #[cfg_attr(feature = "inlined", inline(always))]
     fn source(&self, operand: &[u8]) -> Register {
         let (file, swizzle, modifier) = (operand[0], operand[3] as usize, operand[4]);
         let mut i = index(operand);
@@ -160,6 +166,7 @@ impl Interpreter<'_> {
         }
     }
 
+    #[cfg_attr(feature = "inlined", inline(always))]
     fn write(&mut self, record: &[u8], result: Register) {
         let start = match record[1] {
             OUT => 4 * index(&record[1..]),
@@ -174,22 +181,26 @@ impl Interpreter<'_> {
         }
     }
 
+    #[cfg_attr(feature = "inlined", inline(always))]
     fn one(&mut self, record: &[u8], f: impl Fn(u32) -> u32) {
         let a = self.source(&record[5..10]);
         self.write(record, four(|i| f(a[i])));
     }
 
+    #[cfg_attr(feature = "inlined", inline(always))]
     fn two(&mut self, record: &[u8], f: impl Fn(u32, u32) -> u32) {
         let (a, b) = (self.source(&record[5..10]), self.source(&record[10..15]));
         self.write(record, four(|i| f(a[i], b[i])));
     }
 
+    #[cfg_attr(feature = "inlined", inline(always))]
     fn three(&mut self, record: &[u8], f: impl Fn(u32, u32, u32) -> u32) {
         let (a, b) = (self.source(&record[5..10]), self.source(&record[10..15]));
         let c = self.source(&record[15..20]);
         self.write(record, four(|i| f(a[i], b[i], c[i])));
     }
 
+    #[cfg_attr(feature = "inlined", inline(always))]
     fn wide(&mut self, record: &[u8], f: impl Fn(u64, u64) -> u64) {
         let a = pairs(self.source(&record[5..10]));
         let b = if record[0] < U64ADD { [0; 2] } else { pairs(self.source(&record[10..15])) };

@@ -1,3 +1,4 @@
+pub mod Gather
 pub mod Sources
 pub mod Steps
 pub mod Walks

@@ -3,7 +3,8 @@
 -- Assumes nothing.
 use Prim.Native.Nat.{ℕ}
 use mathlib.Core.List.{List}
-use lib.ListN.{take, drop}
+use lib.ListN.{length, take, drop}
+use lib.Seq.{paste}
 use Rattle.machine.specs.Operands.{Env, wordIn, declaredIn}
 
 -- n words from `first` on.
@@ -18,3 +19,7 @@ envIn bank =
       immediates = wordIn (part bank 4224 1024);
       declared = declaredIn (part bank 5248 40);
     }
+
+-- Words copied into a list, from a place on.
+abbrev pub laid : List ℕ → ℕ → List ℕ → List ℕ
+laid l from words = paste l from words (length words)

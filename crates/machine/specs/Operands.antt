@@ -4,7 +4,7 @@ use Prim.Native.Nat.{ℕ, _+_, _*_, _/_, _%_, _^_}
 use mathlib.Core.Bool.{Bool, false, cond, _&&_}
 use mathlib.Core.List.{List, [], _∷_}
 use lib.Dec.{ltb, leb, eqb}
-use lib.ListN.{getD, length}
+use lib.ListN.{getD, length, take}
 use lib.IntN.{ℤ, pos, negsuc, _+ℤ_}
 use Rattle.words.specs.Word.{bit, neg, signed}
 use Rattle.format.specs.Kinds.{formOf, sources}
@@ -27,6 +27,16 @@ pub record Env : Type 0 where
 -- Word k of a list, 0 past its end.
 abbrev pub wordIn : List ℕ → ℕ → ℕ
 wordIn words k = getD words k 0
+
+-- "1 CONST 0-1023, 2 IN 0-31" (01, Register files): of what is lent, no more words than these registers have are read.
+abbrev pub envWith : (ℕ → ℕ → Bool) → List ℕ → List ℕ → List ℕ → Env
+envWith declared immediates inputs constants =
+    record {
+      constants = wordIn (take 4096 constants);
+      inputs = wordIn (take 128 inputs);
+      immediates = wordIn immediates;
+      declared = declared;
+    }
 
 -- "which registers of each file are declared, one bit each" (01, Forms): 1,024 bits for CONST (file 1), then 256 for TEMP
 -- (file 4), of which alone an indirect operand asks.

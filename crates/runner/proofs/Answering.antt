@@ -26,12 +26,12 @@ use Rattle.checker.specs.Findings.{Seen}
 use Rattle.checker.proofs.Followed.{followed}
 use Rattle.effects.specs.Effect.{state}
 use Rattle.machine.specs.Bank.{envIn}
-use Rattle.machine.specs.Operands.{Env, declaredIn, wordIn}
+use Rattle.machine.specs.Operands.{Env, declaredIn, envWith, wordIn}
 use Rattle.machine.specs.Step.{machineOf}
 use Rattle.runner.specs.declared.Outcome.{Outcome}
 use Rattle.runner.specs.Answers.{refusal, ready, runAnswer, stepsOf, after, prepareAfter}
 use Rattle.runner.specs.Steps.{reached, byRows, StaysInside, Came, MayRun}
-use Rattle.runner.specs.Whole.{askedIndirectly, placeOf, listsOf, envWith, envOf, programOf, preparedIn, prepareOf, workShort, lentRefusal, cleared, reported, carriedOut, runAccepted, runOf}
+use Rattle.runner.specs.Whole.{askedIndirectly, placeOf, listsOf, envOf, programOf, preparedIn, prepareOf, workShort, lentRefusal, cleared, reported, carriedOut, runAccepted, runOf}
 use Rattle.runner.proofs.Demand.{run-reads, stays-inside}
 
 -- What the check says of the program that it takes.

@@ -2,7 +2,6 @@ pub mod Loop
 pub mod Copies
 pub mod Due
 pub mod Demand
-pub mod Gather
 pub mod Indirect
 pub mod Answering
 mod Cases

@@ -4,7 +4,6 @@ use Prim.Native.Nat.{ℕ, _<_, _≤_}
 use mathlib.Core.Path.{_≡_}
 use mathlib.Core.List.{List}
 use lib.ListN.{length}
-use lib.Seq.{paste}
 use Rattle.blocks.specs.Reading.{Reading, out, ended, halted}
 use Rattle.blocks.specs.Run.{run, mostInstructions}
 use Rattle.blocks.specs.Table.{rowIn, placeIn}
@@ -15,10 +14,6 @@ use Rattle.machine.specs.Operands.{Env}
 use Rattle.machine.specs.Step.{machineOf}
 use Rattle.runner.specs.declared.Outcome.{Outcome}
 use Rattle.runner.specs.Whole.{cleared}
-
--- Words copied into a list, from a place on.
-abbrev pub laid : List ℕ → ℕ → List ℕ → List ℕ
-laid l from words = paste l from words (length words)
 
 -- An outcome, and the state that the lent words hold then. The loop refuses nothing.
 abbrev pub reached : Outcome → State → Reading State

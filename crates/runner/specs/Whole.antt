@@ -4,7 +4,7 @@ use Prim.Native.Nat.{ℕ, _*_}
 use mathlib.Core.Bool.{Bool, cond, _&&_, _||_}
 use mathlib.Core.List.{List, _++_}
 use lib.Dec.{eqb, ltb}
-use lib.ListN.{length, take, drop, replicate}
+use lib.ListN.{length, drop, replicate}
 use lib.Seq.{sets}
 use Rattle.format.specs.Records.{placeFrom}
 use Rattle.blocks.specs.Control.{Machine}
@@ -15,7 +15,7 @@ use Rattle.blocks.specs.Table.{rowWords}
 use Rattle.checker.specs.Findings.{Seen}
 use Rattle.checker.specs.Check.{Outcome, accepted, refused, checkOf}
 use Rattle.effects.specs.Destinations.{State}
-use Rattle.machine.specs.Operands.{Env, wordIn}
+use Rattle.machine.specs.Operands.{Env, envWith}
 use Rattle.machine.specs.Step.{machineOf}
 use Rattle.runner.specs.Answers.{Answer, refusal, ready, end, halt, Result, after, Preparation, prepareAfter}
 
@@ -31,16 +31,6 @@ listsOf s file = nestedLists (opFrom file (s .start)) (s .instructions)
 -- "Indirect only for CONST and TEMP" (01, Register files): of these two files alone an operand asks what is declared.
 abbrev pub askedIndirectly : (ℕ → ℕ → Bool) → ℕ → ℕ → Bool
 askedIndirectly declared f i = (eqb f 1 || eqb f 4) && declared f i
-
--- "1 CONST 0-1023, 2 IN 0-31" (01, Register files): of what is lent, no more words than these registers have are read.
-abbrev pub envWith : (ℕ → ℕ → Bool) → List ℕ → List ℕ → List ℕ → Env
-envWith declared immediates inputs constants =
-    record {
-      constants = wordIn (take 4096 constants);
-      inputs = wordIn (take 128 inputs);
-      immediates = wordIn immediates;
-      declared = declared;
-    }
 
 abbrev pub envOf : Seen → List ℕ → List ℕ → Env
 envOf s inputs constants = envWith (askedIndirectly (s .declared)) (s .immediates) inputs constants

@@ -1,18 +1,15 @@
-// What is lent to a run: the refusal that is due for it, the registers cleared, and the bank that the machine reads.
+// What is lent to a run: the refusal that is due for it, the registers cleared, and the declared sets as the machine asks them.
 use blocks::table::ROW_WORDS;
 use checker::program::Program;
-use machine::bank::Bank;
 use registers::sets::Declared;
 ghost use mathlib.Core.Path.{_≡_};
 ghost use mathlib.Core.List.{[], _++_};
-ghost use Prim.Native.Nat.{_+_, _≤_, _<_};
+ghost use Prim.Native.Nat.{_≤_, _<_};
 ghost use lib.ListN.{length, getD, take};
 ghost use Rattle.checker.specs.Check.{programSeen};
 ghost use Rattle.registers.specs.Sets.{isIn};
-ghost use Rattle.machine.specs.Bank.{envIn};
 ghost use Rattle.machine.specs.Operands.{declaredIn};
-ghost use Rattle.runner.specs.Whole.{lentRefusal, cleared, askedIndirectly, envWith};
-ghost use Rattle.runner.specs.Steps.{laid};
+ghost use Rattle.runner.specs.Whole.{lentRefusal, cleared, askedIndirectly};
 
 const REGISTER_WORDS: usize = 1156;
 
@@ -78,43 +75,4 @@ pub fn declared_words(declared: Declared) -> [u32; 40]
         i += 1;
     }
     words
-}
-
-// The first n words, or all where there are fewer.
-fn at_most(words: &[u32], n: usize) -> &[u32]
-    ensures { λ r. ⌜ (now r ≡ take n (now (words .entry))) × (length (now r) ≤ n) ⌝ }
-{
-    if n < words.len() { &words[..n] } else { words }
-}
-
-// Copies words into the bank, from a place on.
-fn copy(bank: &mut Bank, from: usize, words: &[u32])
-    requires { ⌜ (length (now bank) ≡ 5288) × (from + length (now words) ≤ 5288) ⌝ }
-    ensures { λ _. ⌜ now (bank .exit) ≡ laid (now (bank .entry)) from (now (words .entry)) ⌝ }
-{
-    let mut i: usize = 0;
-    while i < words.len() {
-        bank[from + i] = words[i];
-        i += 1;
-    }
-}
-
-// The same with no more than so many.
-fn lay(bank: &mut Bank, from: usize, most: usize, words: &[u32])
-    requires { ⌜ (length (now bank) ≡ 5288) × (from + most ≤ 5288) ⌝ }
-    ensures { λ _. ⌜ (now (bank .exit) ≡ laid (now (bank .entry)) from (take most (now (words .entry)))) × (length (now (bank .exit)) ≡ 5288) ⌝ }
-{
-    copy(bank, from, at_most(words, most));
-}
-
-// The bank of a run: what is lent to be read, and what the check found.
-pub fn gather(bits: &[u32; 40], immediates: &[u32; 1024], inputs: &[u32], constants: &[u32]) -> Bank
-    ensures { λ r. ⌜ envIn r ≡ envWith (declaredIn (take 40 (now (bits .entry)))) (take 1024 (now (immediates .entry))) (now (inputs .entry)) (now (constants .entry)) ⌝ }
-{
-    let mut bank = [0u32; 5288];
-    lay(&mut bank, 0, 4096, constants);
-    lay(&mut bank, 4096, 128, inputs);
-    lay(&mut bank, 4224, 1024, &immediates[..]);
-    lay(&mut bank, 5248, 40, &bits[..]);
-    bank
 }

@@ -3,6 +3,7 @@ use blocks::table::ROW_WORDS;
 use blocks::table::fill;
 use checker::examine;
 use checker::program::Program;
+use machine::bank::gather;
 ghost use mathlib.Core.Path.{_≡_};
 ghost use Prim.Native.Nat.{_≤_};
 ghost use Rattle.blocks.specs.Prepared.{filled};
@@ -93,7 +94,7 @@ pub fn run(
             }
             let declared = program.declared;
             let bits = lent::declared_words(declared);
-            let bank = lent::gather(&bits, &immediates, inputs, constants);
+            let bank = gather(&bits, &immediates, inputs, constants);
             write_table(file, program, work);
             steps::run_rows(file, work, &bank, registers, memory, budget)
         }

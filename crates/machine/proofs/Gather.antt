@@ -12,10 +12,8 @@ use lib.Dec.{eqb, ltb}
 use lib.ListN.{length, getD, set, take, drop, replicate, length-append, length-drop, length-replicate, length-take, getD-replicate, List·getD-append, List·getD-eq-default}
 use lib.Seq.{getD-append-add, getD-drop, getD-take, length-paste, length-paste-head, paste, paste-suc, paste-zero, take-all}
 use Rattle.words.specs.Word.{bit}
-use Rattle.machine.specs.Bank.{envIn, part}
-use Rattle.machine.specs.Operands.{Env, declaredIn, wordIn}
-use Rattle.runner.specs.Steps.{laid}
-use Rattle.runner.specs.Whole.{envWith}
+use Rattle.machine.specs.Bank.{envIn, laid, part}
+use Rattle.machine.specs.Operands.{declaredIn, envWith, wordIn}
 
 -- ---- Words of a copy
 

@@ -1,9 +1,9 @@
 -- As many words as there are, and no more than there is room for.
 -- Assumes nothing.
 use borrow.Author.Needs.{needs}
-use Rattle.runner.proofs.Gather.{laid-first, laid-room}
-use Rattle.runner.proofs.lent.lay.Statement.{statement}
-use Rattle.runner.proofs.lent.lay.Tie as tie
+use Rattle.machine.proofs.Gather.{laid-first, laid-room}
+use Rattle.machine.proofs.bank.lay.Statement.{statement}
+use Rattle.machine.proofs.bank.lay.Tie as tie
 
 pub lay-spec : {M : Type 1} → statement M
 lay-spec =

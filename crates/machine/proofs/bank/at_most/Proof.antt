@@ -1,9 +1,9 @@
 -- The first words, or all.
 -- Assumes nothing.
 use borrow.Author.Needs.{needs}
-use Rattle.runner.proofs.Gather.{first-long, first-words, all-words}
-use Rattle.runner.proofs.lent.at_most.Statement.{statement}
-use Rattle.runner.proofs.lent.at_most.Tie as tie
+use Rattle.machine.proofs.Gather.{first-long, first-words, all-words}
+use Rattle.machine.proofs.bank.at_most.Statement.{statement}
+use Rattle.machine.proofs.bank.at_most.Tie as tie
 
 pub at-most-spec : {M : Type 1} → statement M
 at-most-spec =

@@ -1,9 +1,9 @@
 -- The bank, part by part.
 -- Assumes nothing.
 use borrow.Author.Needs.{needs}
-use Rattle.runner.proofs.Gather.{gathered}
-use Rattle.runner.proofs.lent.gather.Statement.{statement}
-use Rattle.runner.proofs.lent.gather.Tie as tie
+use Rattle.machine.proofs.Gather.{gathered}
+use Rattle.machine.proofs.bank.gather.Statement.{statement}
+use Rattle.machine.proofs.bank.gather.Tie as tie
 
 pub gather-spec : {M : Type 1} → statement M
 gather-spec =

@@ -5,9 +5,9 @@ use Prim.Native.Nat.{ℕ, _+_, _-_, _≤_}
 use borrow.Author.Needs.{needs}
 use lib.ListN.{length}
 use lib.Seq.{paste}
-use Rattle.runner.proofs.Gather.{copy-none, copy-more, copy-end}
-use Rattle.runner.proofs.lent.copy.Statement.{statement}
-use Rattle.runner.proofs.lent.copy.Tie as tie
+use Rattle.machine.proofs.Gather.{copy-none, copy-more, copy-end}
+use Rattle.machine.proofs.bank.copy.Statement.{statement}
+use Rattle.machine.proofs.bank.copy.Tie as tie
 
 abbrev Inv-loop : tie.InvT-loop
 Inv-loop bank₀ from words i₀ bank i =
