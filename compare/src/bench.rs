@@ -45,6 +45,24 @@ fn run(runner: &dyn Runner, file: &[u8], repeat: usize) -> (Answer, Vec<u32>, f6
     (answer, [registers.to_vec(), memory].concat(), time)
 }
 
+/// Document 01's case 12: a run of two steps, nearly all of it check, prepare and clearing.
+const SMALLEST: &str = "010300000000 0219000000000000000000000000000000 1003000001060000E400 89";
+const SMALLEST_RUNS: usize = 1000;
+
+/// The time of the smallest run in microseconds.
+fn smallest_run(runner: &dyn Runner) -> f64 {
+    let file = from_hex(SMALLEST);
+    let (mut registers, mut work) = (vec![0; REGISTER_WORDS], vec![0; 3 * 1024]);
+    let all = least_time(|| {
+        for _ in 0..SMALLEST_RUNS {
+            let lent =
+                Lent { inputs: &[], constants: &[], registers: &mut registers, work: &mut work, memory: &mut [] };
+            assert_eq!(runner.run(&file, lent, u32::MAX), Answer::done(2));
+        }
+    });
+    all / SMALLEST_RUNS as f64 * 1e6
+}
+
 /// Measures a program; false if the runners do not leave the same. They take turns, so that a busy machine is busy
 /// for all of them.
 fn bench_program(runners: &[&dyn Runner], file: &[u8]) -> bool {
@@ -76,6 +94,9 @@ pub fn bench(product: Option<&dyn Runner>, second: &dyn Runner, plain: &dyn Runn
     }
     if !same {
         println!("the runners do not leave the same words");
+    }
+    for runner in &runners {
+        println!("a whole run of 2 steps: {:18} {:.2} us", runner.name(), smallest_run(*runner));
     }
     for (name, file) in largest_files() {
         println!("{name}: {} bytes", file.len());
