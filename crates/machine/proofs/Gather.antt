@@ -9,7 +9,7 @@ use native.Mathlib.Nat.{min-eq-left, min-le-left}
 use native.Mathlib.Numerals.{add-one}
 use borrow.Author.Tests.{ltb-true, ltb-false}
 use lib.Dec.{eqb, ltb}
-use lib.ListN.{length, getD, set, take, drop, replicate, length-append, length-drop, length-replicate, length-take, getD-replicate, List·getD-append, List·getD-eq-default}
+use lib.ListN.{length, getD, set, take, drop, replicate, length-replicate, length-take, getD-replicate, List·getD-append, List·getD-eq-default}
 use lib.Seq.{getD-append-add, getD-drop, getD-take, length-paste, length-paste-head, paste, paste-suc, paste-zero, take-all}
 use Rattle.words.specs.Word.{bit}
 use Rattle.machine.specs.Bank.{envIn, laid, part}
@@ -251,5 +251,8 @@ module _ (immediates inputs constants bits b₁ b₂ b₃ b₄ : List ℕ)
         ∙ ap (λ (b : List ℕ). laid b 5248 d)
         (e₃ ∙ ap (λ (b : List ℕ). laid b 4224 m) (e₂ ∙ ap (λ (b : List ℕ). laid b 4096 i) e₁))
 
-    pub gathered : envIn b₄ ≡ envWith (declaredIn (take 40 bits)) (take 1024 immediates) inputs constants
-    gathered = ap envIn all-laid ∙ env-is
+    pub gathered : length bits ≡ 40 → length immediates ≡ 1024 → envIn b₄ ≡ envWith (declaredIn bits) immediates inputs constants
+    gathered lb li =
+        ap envIn all-laid ∙ env-is
+        ∙ ap (λ (q : List ℕ). envWith (declaredIn q) m inputs constants) (take-all 40 bits (omega arith))
+        ∙ ap (λ (q : List ℕ). envWith (declaredIn bits) q inputs constants) (take-all 1024 immediates (omega arith))

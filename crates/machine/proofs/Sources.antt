@@ -5,7 +5,7 @@ use Rattle.machine.specs.Operands.{Env, bitIn, declaredIn, firstSource, 
 use Rattle.effects.specs.Destinations.{components, zeros}
 use Rattle.words.specs.Word.{neg, signed}
 use Rattle.format.specs.Kinds.{formOf, sources}
-use Rattle.format.proofs.Ranges.{every, in-range}
+use Rattle.format.proofs.Ranges.{in-range}
 use Rattle.format.specs.Fields.{sourceAt}
 use Prim.Native.Nat.{_%_, _*_, _+_, _-_, _/_, _<_, _^_, _≤_, suc, zero, ℕ}
 use mathlib.Core.Path.{_∙_, _≡_, ap, refl, sym}
@@ -14,7 +14,7 @@ use mathlib.Core.List.{List, [], _∷_}
 use native.Mathlib.Omega.{arith}
 use native.Mathlib.Nat.{add-zero, mod-lt}
 use borrow.Author.Tests.{le-leb, le-ltb, leb-false, lt-leb, lt-ltb, ne-eqb}
-use lib.Dec.{T, eqb, leb, leb→le, ltb}
+use lib.Dec.{eqb, leb, leb→le, ltb}
 use lib.ListN.{List·getD-eq-default, drop, drop-of-length-le, getD, length, length-drop, set, take}
 use lib.Seq.{take-all}
 use lib.IntN.{_+ℤ_, pos, subℕ}

@@ -13,7 +13,7 @@ use Rattle.format.specs.Fields.{destinationAt}
 use Rattle.format.proofs.Ranges.{and-left, and-right, every, in-range}
 use Rattle.blocks.specs.Table.{placeIn, rowIn}
 use Rattle.blocks.specs.Run.{Step, comesNext, mostInstructions, step, walk}
-use Rattle.blocks.specs.Control.{Machine, Op, PLAIN, ELSE, ENDIF, BGNLOOP, ENDLOOP, BRK, CONT, DEFAULT, ENDSWITCH, END, UIF, SWITCH, CASE, is, opOf}
+use Rattle.blocks.specs.Control.{Machine, Op, PLAIN, ELSE, ENDLOOP, BRK, CONT, END, UIF, SWITCH, is, opOf}
 use Rattle.blocks.proofs.Ops.{op-cases}
 use Prim.Native.Nat.{_+_, _-_, _<_, _≤_, suc, ℕ}
 use mathlib.Core.Path.{_∙_, _≡_, ap, refl, sym}

@@ -7,10 +7,9 @@ use Prim.Native.Nat.{ℕ, zero, suc, _-_, _+_, _<_, _≤_}
 use native.Mathlib.Omega.{arith}
 use native.Mathlib.Numerals.{add-one}
 use borrow.Author.Tests.{eq-eqb, ne-eqb}
-use lib.Dec.{eqb}
 use lib.ListN.{getD}
 use Rattle.format.specs.Fields.{caseWord}
-use Rattle.blocks.specs.Control.{Machine, Op, CASE, DEFAULT, caseOf, defaultAt, is, opOf}
+use Rattle.blocks.specs.Control.{Machine, CASE, DEFAULT, caseOf, defaultAt, is, opOf}
 use Rattle.blocks.specs.Table.{Row, placeIn}
 use Rattle.blocks.specs.Run.{walk}
 use Rattle.blocks.proofs.Ops.{op-cases}

@@ -1,5 +1,5 @@
 -- The bank: what a program reads and never writes, in one array of 5,288 words. CONST i from word 4i, IN i from 4096+4i, IMM i from
--- 4224+4i, and from word 5248 on the bits of the declared sets.
+-- 4224+4i, and from word 5248 on the bits of the declared sets of CONST and TEMP.
 -- Assumes nothing.
 use Prim.Native.Nat.{ℕ}
 use mathlib.Core.List.{List}
@@ -11,6 +11,7 @@ use Rattle.machine.specs.Operands.{Env, wordIn, declaredIn}
 abbrev pub part : List ℕ → ℕ → ℕ → List ℕ
 part bank first n = take n (drop first bank)
 
+-- What a bank lends to be read.
 abbrev pub envIn : List ℕ → Env
 envIn bank =
     record {

@@ -2,7 +2,7 @@
 -- Assumes nothing.
 use Prim.Native.Nat.{ℕ}
 use mathlib.Core.Bool.{false}
-use mathlib.Core.List.{List}
+use mathlib.Core.List.{List, []}
 use lib.ListN.{getD, drop}
 use Rattle.format.specs.Fields.{destinationAt, caseAt}
 use Rattle.blocks.specs.Control.{Machine}
@@ -10,7 +10,7 @@ use Rattle.blocks.specs.Run.{Step}
 use Rattle.blocks.specs.declared.Next.{Next}
 use Rattle.effects.specs.Destinations.{State}
 use Rattle.effects.specs.Effect.{familyOf, effectOf, state, xOf}
-use Rattle.machine.specs.Operands.{Env, wordIn, kindByte, sourcesOf}
+use Rattle.machine.specs.Operands.{Env, envWith, kindByte, sourcesOf}
 
 -- The effect of the instruction whose record has these bytes, and of the instruction at place p of the file.
 unfoldable pub recordEffect : Env → List ℕ → State → State
@@ -36,10 +36,7 @@ machineOf e file place =
 
 -- The same with nothing but the immediates, for the walk along labels, which looks at kinds and the words of CASEs only.
 abbrev pub labelsOf : List ℕ → List ℕ → (ℕ → ℕ) → Machine State
-labelsOf immediates file place =
-    machineOf
-    (record { constants = λ k. 0; inputs = λ k. 0; immediates = wordIn immediates; declared = λ f i. false })
-    file place
+labelsOf immediates file place = machineOf (envWith (λ f i. false) immediates [] []) file place
 
 -- What a step leaves, as blocks' `step` has it.
 abbrev pub stepped : Next → List ℕ → List ℕ → Step State

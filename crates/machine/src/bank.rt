@@ -4,56 +4,28 @@ ghost use mathlib.Core.Path.{_≡_};
 ghost use Prim.Native.Nat.{_+_, _≤_};
 ghost use lib.ListN.{length, take};
 ghost use Rattle.machine.specs.Operands.{declaredIn, envWith};
-ghost use Rattle.machine.specs.Bank.{part, laid, envIn};
+ghost use Rattle.machine.specs.Bank.{laid, envIn};
 
 // Where the words of each part begin, and how many there are.
-const CONST_AT: usize = 0;
+pub const CONST_AT: usize = 0;
 
 const CONST_WORDS: usize = 4096;
 
-const IN_AT: usize = 4096;
+pub const IN_AT: usize = 4096;
 
 const IN_WORDS: usize = 128;
 
-const IMM_AT: usize = 4224;
+pub const IMM_AT: usize = 4224;
 
 const IMM_WORDS: usize = 1024;
 
-const DECLARED_AT: usize = 5248;
+pub const DECLARED_AT: usize = 5248;
 
 const DECLARED_WORDS: usize = 40;
 
-const BANK_WORDS: usize = 5288;
+pub const BANK_WORDS: usize = 5288;
 
 pub type Bank = [u32; BANK_WORDS];
-
-pub fn constants(bank: &Bank) -> &[u32]
-    ensures { λ r. ⌜ (now r ≡ part (now (bank .entry)) 0 4096) × (length (now r) ≡ 4096) ⌝ }
-{
-    let words = &bank[..];
-    &words[CONST_AT..IN_AT]
-}
-
-pub fn inputs(bank: &Bank) -> &[u32]
-    ensures { λ r. ⌜ (now r ≡ part (now (bank .entry)) 4096 128) × (length (now r) ≡ 128) ⌝ }
-{
-    let words = &bank[..];
-    &words[IN_AT..IMM_AT]
-}
-
-pub fn immediates(bank: &Bank) -> &[u32]
-    ensures { λ r. ⌜ (now r ≡ part (now (bank .entry)) 4224 1024) × (length (now r) ≡ 1024) ⌝ }
-{
-    let words = &bank[..];
-    &words[IMM_AT..DECLARED_AT]
-}
-
-pub fn declared(bank: &Bank) -> &[u32]
-    ensures { λ r. ⌜ (now r ≡ part (now (bank .entry)) 5248 40) × (length (now r) ≡ 40) ⌝ }
-{
-    let words = &bank[..];
-    &words[DECLARED_AT..BANK_WORDS]
-}
 
 // The first n words, or all where there are fewer.
 fn at_most(words: &[u32], n: usize) -> &[u32]
@@ -84,7 +56,7 @@ fn lay(bank: &mut Bank, from: usize, most: usize, words: &[u32])
 
 // The bank of what is lent to be read: no more words of a part than it has registers for.
 pub fn gather(bits: &[u32; 40], immediates: &[u32; 1024], inputs: &[u32], constants: &[u32]) -> Bank
-    ensures { λ r. ⌜ envIn r ≡ envWith (declaredIn (take 40 (now (bits .entry)))) (take 1024 (now (immediates .entry))) (now (inputs .entry)) (now (constants .entry)) ⌝ }
+    ensures { λ r. ⌜ envIn r ≡ envWith (declaredIn (now (bits .entry))) (now (immediates .entry)) (now (inputs .entry)) (now (constants .entry)) ⌝ }
 {
     let mut bank = [0u32; BANK_WORDS];
     lay(&mut bank, CONST_AT, CONST_WORDS, constants);

@@ -1,4 +1,6 @@
 // Where a SWITCH goes: the walk along its labels, which looks at all CASEs before it takes DEFAULT.
+use blocks::table::MOST_INSTRUCTIONS;
+use blocks::table::ROW_WORDS;
 use effects::lent::word_at;
 use format::fields::byte_at;
 use format::fields::case_word;
@@ -10,12 +12,6 @@ ghost use Rattle.blocks.specs.Control.{caseOf, defaultAt};
 ghost use Rattle.blocks.specs.Table.{placeIn, rowIn};
 ghost use Rattle.blocks.specs.Run.{walk, mostInstructions};
 ghost use Rattle.machine.specs.Step.{labelsOf};
-
-// Words of a row: byte place, jump, label.
-pub const ROW_WORDS: usize = 3;
-
-// No program has more instructions.
-pub const MOST_INSTRUCTIONS: u32 = 1024;
 
 // The words of row n, 0 outside the rows.
 pub fn place_of(rows: &[u32], n: u32) -> u32

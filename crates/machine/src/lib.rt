@@ -3,4 +3,5 @@
 pub mod bank;
 mod labels;
 mod operands;
+mod parts;
 pub mod step;

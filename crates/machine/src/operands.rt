@@ -1,6 +1,6 @@
 // Sources read by register number, over lent words.
-use crate::bank;
 use crate::bank::Bank;
+use crate::parts;
 use effects::lent::word_at;
 use format::fields::Source;
 use format::fields::source_in;
@@ -75,7 +75,7 @@ fn register_of(s: Source, bank: &Bank, registers: &[u32]) -> Place
         Place::Register(s.index as u32)
     } else {
         let address = word_at(registers, 1151 + component as usize);
-        indirect(bank::declared(bank), s.file, s.index, address)
+        indirect(parts::declared(bank), s.file, s.index, address)
     }
 }
 
@@ -108,10 +108,10 @@ fn register_words(file: u8, n: u32, bank: &Bank, registers: &[u32]) -> [u32; 4]
 {
     let first = 4 * n as usize;
     match file {
-        1 => four_at(bank::constants(bank), first),
-        2 => four_at(bank::inputs(bank), first),
+        1 => four_at(parts::constants(bank), first),
+        2 => four_at(parts::inputs(bank), first),
         4 => four_at(registers, 128 + first),
-        6 => four_at(bank::immediates(bank), first),
+        6 => four_at(parts::immediates(bank), first),
         _ => [0, 0, 0, 0],
     }
 }

@@ -1,11 +1,11 @@
 // One step: the instruction's effect and what comes next, by a match on the kind with ranges.
-use crate::bank;
 use crate::bank::Bank;
 use crate::labels::after_label;
 use crate::labels::jump_of;
 use crate::labels::label_of;
 use crate::labels::place_of;
 use crate::operands::read_sources;
+use crate::parts;
 use blocks::Next;
 use effects::effect::effect;
 use format::fields::byte_at;
@@ -64,7 +64,7 @@ pub fn step(
         0x91 => Next::At(after_label(
             file,
             rows,
-            bank::immediates(bank),
+            parts::immediates(bank),
             x,
             label_of(rows, n),
             jump_of(rows, n) as usize,

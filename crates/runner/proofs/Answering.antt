@@ -5,16 +5,15 @@ use mathlib.Core.Bool.{Bool, true, false, cond}
 use mathlib.Core.List.{List, [], _++_}
 use Prim.Native.Nat.{ℕ, _+_, _-_, _*_, _<_, _≤_}
 use native.Mathlib.Omega.{arith}
-use native.Mathlib.Nat.{min-le-left}
 use borrow.Author.Tests.{lt-ltb, le-ltb, le-leb, ne-eqb, ltb-true, ltb-false}
-use lib.Dec.{eqb, ltb, leb}
-use lib.ListN.{length, take, replicate, length-append, length-take, length-replicate, getD-replicate, List·getD-append, List·getD-eq-default}
-use lib.Seq.{getD-append-add, take-all}
+use lib.Dec.{ltb}
+use lib.ListN.{length, take, replicate, length-replicate, getD-replicate, List·getD-append, List·getD-eq-default}
+use lib.Seq.{getD-append-add}
 use Rattle.format.specs.Fields.{caseWord}
 use Rattle.format.specs.Records.{longest}
 use Rattle.blocks.specs.Nesting.{accepts}
 use Rattle.blocks.specs.Prepared.{opFrom, filled}
-use Rattle.blocks.specs.Reading.{Reading, reading}
+use Rattle.blocks.specs.Reading.{reading}
 use Rattle.blocks.specs.Run.{mostInstructions}
 use Rattle.blocks.specs.Table.{rowIn, placeIn, rowWords}
 use Rattle.blocks.proofs.Correct.{Final, run-final}
@@ -99,21 +98,18 @@ zeros-are n k = on (ltb k n) refl
     on false h = List·getD-eq-default (replicate n 0) 0 (omega (arith, ltb-false k n h, length-replicate {A = ℕ} n 0))
 
 -- Words with nothing but 0 after them.
-padded-words : (words front : List ℕ) → words ≡ front ++ replicate (1024 - length front) 0 → length front ≤ 1024 → wordIn (take 1024 words) ≡ wordIn front
-padded-words words front e short = fun-ext λ k. on k (ltb k (length front)) refl
+padded-words : (words front : List ℕ) (n : ℕ) → words ≡ front ++ replicate n 0 → wordIn words ≡ wordIn front
+padded-words words front n e = fun-ext λ k. on k (ltb k (length front)) refl
   where
-    whole : take 1024 words ≡ words
-    whole = take-all 1024 words (rw e (omega (arith, length-append front (replicate (1024 - length front) 0), length-replicate {A = ℕ} (1024 - length front) 0)))
-
-    on : (k : ℕ) (t : Bool) → ltb k (length front) ≡ t → wordIn (take 1024 words) k ≡ wordIn front k
-    on k true h = rw (whole, e) (List·getD-append front (replicate (1024 - length front) 0) 0 k (ltb-true k (length front) h))
+    on : (k : ℕ) (t : Bool) → ltb k (length front) ≡ t → wordIn words k ≡ wordIn front k
+    on k true h = rw e (List·getD-append front (replicate n 0) 0 k (ltb-true k (length front) h))
     on k false h =
         let past : length front ≤ k = ltb-false k (length front) h in
         let there : length front + (k - length front) ≡ k = omega arith in
-        rw (whole, e)
-        (ap (wordIn (front ++ replicate (1024 - length front) 0)) (sym there)
-        ∙ getD-append-add front (replicate (1024 - length front) 0) (k - length front) 0
-        ∙ zeros-are (1024 - length front) (k - length front)
+        rw e
+        (ap (wordIn (front ++ replicate n 0)) (sym there)
+        ∙ getD-append-add front (replicate n 0) (k - length front) 0
+        ∙ zeros-are n (k - length front)
         ∙ sym (List·getD-eq-default front 0 past))
 
 -- ---- The check's answer, and the program where there is one
@@ -166,10 +162,10 @@ module _ (file : List ℕ) (c : Checked) (words : List ℕ) (said : outcome c wo
         unfolding runOf runAccepted lentRefusal
         lent-refused budget h = rw (accepts-it, ← due-is, ne-eqb due 0 h)
 
-        module _ (none : due ≡ 0) (before bank bits : List ℕ) (few : c .program .immediates ≤ 256)
+        module _ (none : due ≡ 0) (before bank bits : List ℕ)
             (padded : words ≡ wordsAfter (checkOf file) before)
-            (asked : declaredIn (take 40 bits) ≡ askedIndirectly (isIn (c .program .declared)))
-            (gathered : envIn bank ≡ envWith (declaredIn (take 40 bits)) (take 1024 words) inputs constants)
+            (asked : declaredIn bits ≡ askedIndirectly (isIn (c .program .declared)))
+            (gathered : envIn bank ≡ envWith (declaredIn bits) words inputs constants)
           where
             taken : Follows seen file
             taken = follows file seen accepts-it
@@ -178,10 +174,9 @@ module _ (file : List ℕ) (c : Checked) (words : List ℕ) (said : outcome c wo
             unfolding lentRefusal
             fits = lent-enough seen inputs constants registers work memory (sym due-is ∙ none)
 
-            immediates-are : wordIn (take 1024 words) ≡ wordIn (seen .immediates)
+            immediates-are : wordIn words ≡ wordIn (seen .immediates)
             immediates-are =
-                padded-words words (seen .immediates) (padded ∙ ap (λ o. wordsAfter o before) accepts-it)
-                (omega (arith, length-take (4 * c .program .immediates) words, min-le-left (4 * c .program .immediates) (length words)))
+                padded-words words (seen .immediates) (1024 - length (seen .immediates)) (padded ∙ ap (λ o. wordsAfter o before) accepts-it)
 
             env-is : envIn bank ≡ envOf seen inputs constants
             env-is = gathered ∙ rw (asked, immediates-are)

@@ -3,7 +3,7 @@
 use mathlib.Core.Path.{_≡_, refl}
 use mathlib.Core.List.{List, [], _∷_, _++_}
 use Prim.Native.Nat.{ℕ}
-use lib.ListN.{getD, take, replicate}
+use lib.ListN.{take, replicate}
 use Rattle.words.specs.Word.{signed, word, lsb, umsb, imsb, least, greatest, outside, ubfe, ibfe, bfi}
 use Rattle.format.specs.Kinds.{lengthOf}
 use Rattle.format.specs.Fields.{word16, word32, destinationAt, sourceAt, declarationAt, caseWord}

@@ -1,19 +1,19 @@
 -- The run by the prepared words is the block reading: the words hold the table's rows and the places of the instructions, and the
 -- two machines, one by these places and one by those of the file, are alike on the program's instructions.
 -- Assumes nothing.
-use mathlib.Core.Path.{_≡_, refl, sym, ap, _∙_, subst}
+use mathlib.Core.Path.{_≡_, sym, ap, _∙_, subst}
 use mathlib.Core.Bool.{true}
-use mathlib.Core.List.{List, [], _++_}
+use mathlib.Core.List.{List, []}
 use Prim.Native.Nat.{ℕ, _+_, _*_, _<_, _≤_}
 use native.Mathlib.Omega.{arith}
 use native.Mathlib.Nat.{zero-add}
-use lib.ListN.{length, getD, take, drop, List·getD-append}
+use lib.ListN.{length, getD, drop, List·getD-append}
 use lib.Seq.{sets, sets-eq}
 use Rattle.format.specs.Fields.{caseWord}
-use Rattle.blocks.specs.Control.{Op, Machine, opAt}
+use Rattle.blocks.specs.Control.{Machine, opAt}
 use Rattle.blocks.specs.Nesting.{accepts}
 use Rattle.blocks.specs.Prepared.{opFrom, tableWords}
-use Rattle.blocks.specs.Reading.{Reading, halted, reading}
+use Rattle.blocks.specs.Reading.{halted, reading}
 use Rattle.blocks.specs.Run.{run, mostInstructions}
 use Rattle.blocks.specs.Table.{Row, row, rowAt, rowIn, placeIn, rowWords, table, wordsOf}
 use Rattle.blocks.proofs.Correct.{rows-count, run-is-reading}

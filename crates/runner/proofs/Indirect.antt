@@ -1,15 +1,15 @@
 -- What the machine asks of the declared words is what the checker saw declared, of the files that an indirect operand may name.
 -- Assumes nothing.
 use mathlib.Core.Path.{_≡_, refl, sym, ap, _∙_, fun-ext}
-use mathlib.Core.Bool.{Bool, true, false, cond, _&&_, _||_}
+use mathlib.Core.Bool.{Bool, true, false, _&&_}
 use mathlib.Core.List.{List, _++_}
-use Prim.Native.Nat.{ℕ, _+_, _*_, _/_, _%_, _^_, _<_, _≤_}
+use Prim.Native.Nat.{ℕ, _+_, _/_, _%_, _^_, _<_, _≤_}
 use native.Mathlib.Omega.{arith}
-use native.Mathlib.Nat.{zero-div, zero-mod, mul-add-div-right, mul-add-mod-self-right, div-lt-iff-lt-mul}
+use native.Mathlib.Nat.{zero-div, zero-mod}
 use borrow.Author.Tests.{ltb-true, ltb-false, eqb-true}
 use lib.Dec.{eqb, ltb}
-use lib.ListN.{length, getD, take, List·getD-append, List·getD-eq-default}
-use lib.Seq.{getD-append-add, take-all}
+use lib.ListN.{length, take, List·getD-append, List·getD-eq-default}
+use lib.Seq.{getD-append-add}
 use Rattle.registers.specs.declared.sets.Declared.{Declared}
 use Rattle.registers.specs.Sets.{isIn}
 use Rattle.registers.specs.Sets as sets
@@ -59,6 +59,5 @@ module _ (d : Declared) (lc : length (d .consts) ≡ 32) (lt : length (d .temps)
       → length words ≡ 40
       → take i words ≡ take i ((d .consts) ++ (d .temps))
       → 40 ≤ i
-      → declaredIn (take 40 words) ≡ askedIndirectly (isIn d)
-  copied-is words i long room done h =
-      ap declaredIn (take-all 40 words (omega arith) ∙ copy-end ((d .consts) ++ (d .temps)) words i 0 long room done h) ∙ asked-is
+      → declaredIn words ≡ askedIndirectly (isIn d)
+  copied-is words i long room done h = ap declaredIn (copy-end ((d .consts) ++ (d .temps)) words i 0 long room done h) ∙ asked-is

@@ -17,7 +17,7 @@ use Rattle.checker.specs.Check.{Outcome, accepted, refused, checkOf}
 use Rattle.effects.specs.Destinations.{State}
 use Rattle.machine.specs.Operands.{Env, envWith}
 use Rattle.machine.specs.Step.{machineOf}
-use Rattle.runner.specs.Answers.{Answer, refusal, ready, end, halt, Result, after, Preparation, prepareAfter}
+use Rattle.runner.specs.Answers.{refusal, ready, end, halt, Result, after, Preparation, prepareAfter}
 
 -- ---- The program: its nested lists, and what its instructions do
 

@@ -5,7 +5,7 @@ use registers::sets::Declared;
 ghost use mathlib.Core.Path.{_≡_};
 ghost use mathlib.Core.List.{[], _++_};
 ghost use Prim.Native.Nat.{_≤_, _<_};
-ghost use lib.ListN.{length, getD, take};
+ghost use lib.ListN.{length, getD};
 ghost use Rattle.checker.specs.Check.{programSeen};
 ghost use Rattle.registers.specs.Sets.{isIn};
 ghost use Rattle.machine.specs.Operands.{declaredIn};
@@ -66,7 +66,7 @@ fn declared_word(declared: Declared, i: usize) -> u32
 
 // The bits of CONST and then those of TEMP: the files that an indirect operand asks of, as the machine asks.
 pub fn declared_words(declared: Declared) -> [u32; 40]
-    ensures { λ r. ⌜ declaredIn (take 40 r) ≡ askedIndirectly (isIn declared) ⌝ }
+    ensures { λ r. ⌜ declaredIn r ≡ askedIndirectly (isIn declared) ⌝ }
 {
     let mut words = [0u32; 40];
     let mut i: usize = 0;

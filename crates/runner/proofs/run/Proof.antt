@@ -20,8 +20,9 @@ run-spec =
     let passed = asked .before .before in
     let due = passed .before in
     let told = due .before .before .before .before in
-    let said = told .before .before .before .examine .ensures in
-    may-run _ _ _ (said .0) _ _ _ _ _ _ (told .enum-told .given .1) _ (due .refusal .ensures) (passed .if1 .left) _ (gathered .gather .result) (asked .declared-words .result) (said .1 .1 .1) (said .1 .1 .0) (asked .declared-words .ensures) (gathered .gather .ensures) _ (table .write-table .ensures))
+    let check = told .before .before .before .examine in
+    let said = check .ensures in
+    may-run _ (check .result) _ (said .0) _ _ _ _ _ _ (told .enum-told .given .1) _ (due .refusal .ensures) (passed .if1 .left) _ (gathered .gather .result) (asked .declared-words .result) (said .1 .1 .0) (asked .declared-words .ensures) (gathered .gather .ensures) _ (table .write-table .ensures))
     (λ c. search (needs, run-refused))
     (search needs) (search needs) (search needs)
     (λ c.
@@ -32,5 +33,6 @@ run-spec =
     let passed = asked .before .before in
     let due = passed .before in
     let told = due .before .before .before .before in
-    let said = told .before .before .before .examine .ensures in
-    carried-out _ _ _ (said .0) _ _ _ _ _ _ (told .enum-told .given .1) _ (due .refusal .ensures) (passed .if1 .left) _ (gathered .gather .result) (asked .declared-words .result) (said .1 .1 .1) (said .1 .1 .0) (asked .declared-words .ensures) (gathered .gather .ensures) _ (table .write-table .ensures) _ _ _ _ (ran .run-rows .ensures)))
+    let check = told .before .before .before .examine in
+    let said = check .ensures in
+    carried-out _ (check .result) _ (said .0) _ _ _ _ _ _ (told .enum-told .given .1) _ (due .refusal .ensures) (passed .if1 .left) _ (gathered .gather .result) (asked .declared-words .result) (said .1 .1 .0) (asked .declared-words .ensures) (gathered .gather .ensures) _ (table .write-table .ensures) _ _ _ _ (ran .run-rows .ensures)))

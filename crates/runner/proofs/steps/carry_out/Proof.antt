@@ -1,7 +1,7 @@
 -- The loop over steps: after `steps` of them, the run with that budget has halted where the loop stands.
 -- Assumes nothing.
 use mathlib.Core.Path.{_≡_}
-use Prim.Native.Nat.{ℕ, _-_, _≤_}
+use Prim.Native.Nat.{_-_, _≤_}
 use borrow.Author.Needs.{needs}
 use lib.ListN.{length}
 use Rattle.blocks.specs.Reading.{halted}
