@@ -1,6 +1,6 @@
 # make run    proves and builds the program and runs the example
 # make test   all tests; the last line is rt ci's own, 'N passed, 0 failed'
-# make bench  steps per second beside a plain interpreter, as it is and forced inline, and the time of check and prepare
+# make bench  steps per second beside a plain interpreter, as it is and forced inline; the times of a smallest run, of check and prepare
 .PHONY: run test bench clean
 
 run:

@@ -1,4 +1,5 @@
-//! The benchmark: steps per second of the library and of a plain interpreter, and the times of check and prepare.
+//! The benchmark: steps per second of the library and of a plain interpreter, the time of a smallest run, and those of check and
+//! prepare.
 
 use crate::format::*;
 use crate::kinds::*;
@@ -20,6 +21,10 @@ const REPEATS: usize = 7;
 /// Each repeat lends its registers so many words further on: where they have the low address bits of what a runner keeps on
 /// its stack, a processor takes the one for the other and waits, and that is a matter of luck and not of the runner.
 const SHIFT: usize = 144;
+
+/// Document 01's case 12: a run of two steps, nearly all of it check, prepare and clearing.
+const SMALLEST: &str = "010300000000 0219000000000000000000000000000000 1003000001060000E400 89";
+const SMALLEST_RUNS: usize = 1000;
 
 /// The time of some work in seconds.
 fn time(work: impl FnOnce()) -> f64 {
@@ -44,10 +49,6 @@ fn run(runner: &dyn Runner, file: &[u8], repeat: usize) -> (Answer, Vec<u32>, f6
     let time = time(|| answer = runner.run(file, lent, u32::MAX));
     (answer, [registers.to_vec(), memory].concat(), time)
 }
-
-/// Document 01's case 12: a run of two steps, nearly all of it check, prepare and clearing.
-const SMALLEST: &str = "010300000000 0219000000000000000000000000000000 1003000001060000E400 89";
-const SMALLEST_RUNS: usize = 1000;
 
 /// The time of the smallest run in microseconds.
 fn smallest_run(runner: &dyn Runner) -> f64 {

@@ -90,7 +90,7 @@ fn word(kind: u8, a: u32, b: u32, c: u32, d: u32) -> u32
     }
 }
 
-// Writes component i of a result on words; one that the mask does not have is not asked for.
+// Writes component i of a result on words; one that the mask does not have is left.
 fn put_word(registers: &mut [u32], first: u32, mask: u8, kind: u8, sources: &[[u32; 4]; 4], i: u8)
     requires { ⌜ (i < 4) × (first + 4 ≤ length (now registers)) ⌝ }
     ensures { λ _. ⌜ now (registers .exit) ≡ ifMasked mask i (placed first (resultWords kind (now (sources .entry)))) (now (registers .entry)) ⌝ }

@@ -39,6 +39,7 @@ fn atomic_cas(memory: &mut [u32], address: u32, b: u32, c: u32) -> u32
     old
 }
 
+// What an instruction of this kind does, given its destination and what its sources read.
 pub fn effect(
     kind: u8,
     d: Destination,
