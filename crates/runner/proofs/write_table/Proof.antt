@@ -6,4 +6,7 @@ use Rattle.runner.proofs.write_table.Tie as tie
 
 pub write-table-spec : {M : Type 1} → statement M
 write-table-spec =
-    tie.close (tie.spec (search needs) (search needs) (search needs) (search needs) (search needs))
+    tie.close
+    (tie.spec
+    (search needs) (search needs) (search needs) (search needs)
+    (λ c. search needs))
