@@ -10,12 +10,12 @@ use borrow.Author.Tests.{eq-eqb, ne-eqb}
 use lib.ListN.{getD}
 use Rattle.format.specs.Fields.{caseWord}
 use Rattle.blocks.specs.Control.{Machine, CASE, DEFAULT, caseOf, defaultAt, is, opOf}
-use Rattle.blocks.specs.Table.{Row, placeIn}
+use Rattle.blocks.specs.Table.{Row, placeIn, rowIn}
 use Rattle.blocks.specs.Run.{walk}
 use Rattle.blocks.proofs.Ops.{op-cases}
 use Rattle.effects.specs.Destinations.{State}
 use Rattle.machine.specs.Operands.{Env, wordIn}
-use Rattle.machine.specs.Step.{labelsOf, machineOf}
+use Rattle.machine.specs.Step.{isCaseAt, labelsOf, machineOf}
 
 -- ---- one label
 
@@ -34,26 +34,27 @@ not-default k d =
     (λ h. refl) (λ h. refl) (λ h. refl) (λ h. refl) (λ h. refl)
     refl
 
-module _ (immediates file rows : List ℕ) (m : ℕ) where
-  module _ (p b : ℕ) (ep : p ≡ placeIn rows m) (eb : b ≡ getD file p 0) where
-    module _ (x w : ℕ) (case : b ≡ 0x92) (ew : w ≡ caseWord immediates file p) where
-      pub case-found : w ≡ x → m + 1 ≡ cond (caseOf (labelsOf immediates file (placeIn rows)) x m) (suc m) 0
-      unfolding opOf caseWord
-      case-found h = rw (← ep, ← eb, case, ← ew, eq-eqb w x h) (add-one m)
+module _ (immediates file : List ℕ) (p b x m : ℕ) (eb : b ≡ getD file p 0) where
+  module _ (w : ℕ) (case : b ≡ 0x92) (ew : w ≡ caseWord immediates file p) where
+    pub case-found : w ≡ x → m + 1 ≡ cond (isCaseAt immediates file p x) (suc m) 0
+    unfolding isCaseAt opOf caseWord
+    case-found h = rw (← eb, case, ← ew, eq-eqb w x h) (add-one m)
 
-      pub case-differs : (w ≡ x → ⊥) → 0 ≡ cond (caseOf (labelsOf immediates file (placeIn rows)) x m) (suc m) 0
-      unfolding opOf caseWord
-      case-differs h = rw (← ep, ← eb, case, ← ew, ne-eqb w x h)
+    pub case-differs : (w ≡ x → ⊥) → 0 ≡ cond (isCaseAt immediates file p x) (suc m) 0
+    unfolding isCaseAt opOf caseWord
+    case-differs h = rw (← eb, case, ← ew, ne-eqb w x h)
 
-    pub case-none : (x : ℕ) → (b ≡ 0x92 → ⊥) → 0 ≡ cond (caseOf (labelsOf immediates file (placeIn rows)) x m) (suc m) 0
-    case-none x h = rw (← ep, ← eb, not-case b h)
+  pub case-none : (b ≡ 0x92 → ⊥) → 0 ≡ cond (isCaseAt immediates file p x) (suc m) 0
+  unfolding isCaseAt
+  case-none h = rw (← eb, not-case b h)
 
-    pub default-found : (other : ℕ) → b ≡ 0x87 → m + 1 ≡ cond (defaultAt (labelsOf immediates file (placeIn rows)) m) (suc m) other
-    unfolding opOf
-    default-found other h = rw (← ep, ← eb, h) (add-one m)
+module _ (k m other : ℕ) where
+  pub default-found : k ≡ 0x87 → m + 1 ≡ cond (is DEFAULT (opOf k)) (suc m) other
+  unfolding opOf
+  default-found h = rw h (add-one m)
 
-    pub default-none : (other : ℕ) → (b ≡ 0x87 → ⊥) → other ≡ cond (defaultAt (labelsOf immediates file (placeIn rows)) m) (suc m) other
-    default-none other h = rw (← ep, ← eb, not-default b h)
+  pub default-none : (k ≡ 0x87 → ⊥) → other ≡ cond (is DEFAULT (opOf k)) (suc m) other
+  default-none h = rw (not-default k h)
 
 -- ---- the walk
 
@@ -68,7 +69,7 @@ module _ (M : Machine State) (T : ℕ → Row) (x : ℕ) where
   walk-ended zero m other w h e = e
   walk-ended (suc f) m other w h e = rw h at e
 
-  pub walk-found : (f m other w found : ℕ) → 0 < f → (m ≡ 0 → ⊥) → found ≡ cond (caseOf M x m) (suc m) 0 → (found ≡ 0 → ⊥) → walk M T f x m other ≡ w → found ≡ w
+  walk-found : (f m other w found : ℕ) → 0 < f → (m ≡ 0 → ⊥) → found ≡ cond (caseOf M x m) (suc m) 0 → (found ≡ 0 → ⊥) → walk M T f x m other ≡ w → found ≡ w
   unfolding walk
   walk-found zero m other w found h d ef n e = absurd (omega arith)
   walk-found (suc f) m other w found h d ef n e = on (caseOf M x m) refl
@@ -77,7 +78,7 @@ module _ (M : Machine State) (T : ℕ → Row) (x : ℕ) where
       on true k = ef ∙ (rw k (rw (ne-eqb m 0 d, k) at e))
       on false k = absurd (n (ef ∙ rw k))
 
-  pub walk-on : (f m other w found o n : ℕ) → 0 < f → (m ≡ 0 → ⊥) → found ≡ cond (caseOf M x m) (suc m) 0 → found ≡ 0
+  walk-on : (f m other w found o n : ℕ) → 0 < f → (m ≡ 0 → ⊥) → found ≡ cond (caseOf M x m) (suc m) 0 → found ≡ 0
       → o ≡ cond (defaultAt M m) (suc m) other → n ≡ T m .label → walk M T f x m other ≡ w → walk M T (f - 1) x n o ≡ w
   unfolding walk
   walk-on zero m other w found o n h d ef z eo en e = absurd (omega arith)
@@ -89,6 +90,25 @@ module _ (M : Machine State) (T : ℕ → Row) (x : ℕ) where
       on : (v : Bool) → caseOf M x m ≡ v → walk M T (suc f - 1) x n o ≡ w
       on true k = let y : suc m ≡ 0 = rw k at (sym ef ∙ z) in absurd (omega arith)
       on false k = rw (one-less, eo, en) (rw (ne-eqb m 0 d, k) at e)
+
+-- a label whose record begins at place p with kind k
+module _ (immediates file rows : List ℕ) (x f m other w found p : ℕ)
+    (h : 0 < f) (d : m ≡ 0 → ⊥) (ep : p ≡ placeIn rows m)
+    (ef : found ≡ cond (isCaseAt immediates file p x) (suc m) 0)
+  where
+    abbrev labels : Machine State
+    labels = labelsOf immediates file (placeIn rows)
+
+    at-place : found ≡ cond (caseOf labels x m) (suc m) 0
+    unfolding isCaseAt
+    at-place = rw (← ep) ef
+
+    pub label-found : (found ≡ 0 → ⊥) → walk labels (rowIn rows) f x m other ≡ w → found ≡ w
+    label-found n e = walk-found labels (rowIn rows) x f m other w found h d at-place n e
+
+    pub label-on : (k o n : ℕ) → found ≡ 0 → k ≡ getD file p 0 → o ≡ cond (is DEFAULT (opOf k)) (suc m) other → n ≡ rowIn rows m .label
+        → walk labels (rowIn rows) f x m other ≡ w → walk labels (rowIn rows) (f - 1) x n o ≡ w
+    label-on k o n z ek eo en e = walk-on labels (rowIn rows) x f m other w found o n h d at-place z (rw (← ep, ← ek) eo) en e
 
 -- only the immediates are looked at
 pub walk-labels : (e : Env) (immediates : List ℕ) → e .immediates ≡ wordIn immediates → (file : List ℕ) (place : ℕ → ℕ) (T : ℕ → Row) (f x m other : ℕ)

@@ -6,12 +6,12 @@ use format::fields::byte_at;
 use format::fields::case_word;
 ghost use mathlib.Core.Path.{_≡_};
 ghost use mathlib.Core.Bool.{cond};
-ghost use mathlib.Core.List.{[]};
 ghost use Prim.Native.Nat.{suc};
-ghost use Rattle.blocks.specs.Control.{caseOf, defaultAt};
+ghost use lib.ListN.{getD};
+ghost use Rattle.blocks.specs.Control.{DEFAULT, is, opOf};
 ghost use Rattle.blocks.specs.Table.{placeIn, rowIn};
 ghost use Rattle.blocks.specs.Run.{walk, mostInstructions};
-ghost use Rattle.machine.specs.Step.{labelsOf};
+ghost use Rattle.machine.specs.Step.{isCaseAt, labelsOf};
 
 // The words of row n, 0 outside the rows.
 pub fn place_of(rows: &[u32], n: u32) -> u32
@@ -32,12 +32,12 @@ pub fn label_of(rows: &[u32], n: u32) -> u32
     word_at(rows, ROW_WORDS * n as usize + 2)
 }
 
-// The instruction after m where that is the CASE of x, else 0.
-fn after_case(file: &[u8], rows: &[u32], immediates: &[u32], x: u32, m: u32) -> usize
-    ensures { λ r. ⌜ r ≡ cond (caseOf (labelsOf (now (immediates .entry)) (now (file .entry)) (placeIn (now (rows .entry)))) x m) (suc m) 0 ⌝ }
+// The instruction after m where that is the CASE of x, else 0. Its record begins at a place of the file with this kind.
+fn after_case(file: &[u8], immediates: &[u32], place: usize, kind: u8, x: u32, m: u32) -> usize
+    requires { ⌜ kind ≡ getD (now file) place 0 ⌝ }
+    ensures { λ r. ⌜ r ≡ cond (isCaseAt (now (immediates .entry)) (now (file .entry)) place x) (suc m) 0 ⌝ }
 {
-    let place = place_of(rows, m) as usize;
-    if byte_at(file, place) == 0x92 {
+    if kind == 0x92 {
         if case_word(immediates, file, place) == x {
             return m as usize + 1;
         }
@@ -45,11 +45,11 @@ fn after_case(file: &[u8], rows: &[u32], immediates: &[u32], x: u32, m: u32) -> 
     0
 }
 
-// The instruction after m where that is DEFAULT, else the other.
-fn after_default(file: &[u8], rows: &[u32], m: u32, other: usize) -> usize
-    ensures { λ r. ⌜ r ≡ cond (defaultAt (labelsOf [] (now (file .entry)) (placeIn (now (rows .entry)))) m) (suc m) other ⌝ }
+// The instruction after m where that has the kind of DEFAULT, else the other.
+fn after_default(kind: u8, m: u32, other: usize) -> usize
+    ensures { λ r. ⌜ r ≡ cond (is DEFAULT (opOf kind)) (suc m) other ⌝ }
 {
-    if byte_at(file, place_of(rows, m) as usize) == 0x87 {
+    if kind == 0x87 {
         return m as usize + 1;
     }
     other
@@ -73,11 +73,13 @@ pub fn after_label(
         if m == 0 {
             return other;
         }
-        let found = after_case(file, rows, immediates, x, m);
+        let place = place_of(rows, m) as usize;
+        let kind = byte_at(file, place);
+        let found = after_case(file, immediates, place, kind, x, m);
         if found != 0 {
             return found;
         }
-        other = after_default(file, rows, m, other);
+        other = after_default(kind, m, other);
         m = label_of(rows, m);
         left -= 1;
     }

@@ -8,7 +8,7 @@ pub after-case-spec : {M : Type 1} → statement M
 after-case-spec =
     tie.close
     (tie.spec
-    (search needs) (search needs) (search needs) (search needs) (search needs)
+    (search needs) (search needs)
     (λ c. search (needs, case-found))
     (λ c. search (needs, case-differs))
     (λ c. search (needs, case-none)))

@@ -8,6 +8,6 @@ pub after-default-spec : {M : Type 1} → statement M
 after-default-spec =
     tie.close
     (tie.spec
-    (search needs) (search needs) (search needs) (search needs)
+    (search needs)
     (λ c. search (needs, default-found))
     (λ c. search (needs, default-none)))

@@ -4,7 +4,7 @@ use borrow.Author.Needs.{needs}
 use Rattle.blocks.specs.Run.{mostInstructions, walk}
 use Rattle.blocks.specs.Table.{placeIn, rowIn}
 use Rattle.machine.specs.Step.{labelsOf}
-use Rattle.machine.proofs.Walks.{walk-ended, walk-found, walk-on, walk-spent}
+use Rattle.machine.proofs.Walks.{label-found, label-on, walk-ended, walk-spent}
 use Rattle.machine.proofs.labels.after_label.Statement.{statement}
 use Rattle.machine.proofs.labels.after_label.Tie as tie
 
@@ -22,8 +22,8 @@ after-label-spec =
     (tie.spec Inv-loop μ-loop
     (search needs)
     (λ c. search (needs, walk-ended))
-    (search needs)
-    (λ c. search (needs, walk-found))
     (search needs) (search needs) (search needs) (search needs)
-    (λ c. search (needs, walk-on))
+    (λ c. search (needs, label-found))
+    (search needs) (search needs) (search needs) (search needs)
+    (λ c. search (needs, label-on))
     (λ c. search (needs, walk-spent)))
