@@ -96,14 +96,37 @@ register-indirect l m r s a p h ea el ep = cc (ne-eqb (s .modifier / 2) 0 h)
 
 -- ---- components
 
-pub four-past : (l : List ℕ) (first : ℕ) → length l < first + 4 → zeros ≡ fourAt l first
-unfolding fourAt
-four-past l first h = rw (lt-leb (first + 4) (length l) h)
+-- no word of a register that is not all there, negated or not
+zero-word : (k : ℕ) → wordIn zeros k ≡ 0
+zero-word zero = refl
+zero-word (suc zero) = refl
+zero-word (suc (suc zero)) = refl
+zero-word (suc (suc (suc zero))) = refl
+zero-word (suc (suc (suc (suc k)))) = refl
 
-pub four-there : (l : List ℕ) (first : ℕ) → first + 4 ≤ length l
-    → getD l first 0 ∷ getD l (first + 1) 0 ∷ getD l (first + 2) 0 ∷ getD l (first + 3) 0 ∷ [] ≡ fourAt l first
+zero-negated : (m : ℕ) → negated m 0 ≡ 0
+zero-negated m = on (eqb (m % 2) 1)
+  where
+    on : (t : Bool) → cond t (neg 32 0) 0 ≡ 0
+    on true = refl
+    on false = refl
+
+none-taken : (s : Source) → zeros ≡ taken zeros s
+unfolding taken components
+none-taken s = sym (simp (zero-word, zero-negated))
+
+pub pick-past : (l : List ℕ) (first : ℕ) (s : Source) → length l < first + 4 → zeros ≡ taken (fourAt l first) s
+unfolding fourAt
+pick-past l first s h = rw (lt-leb (first + 4) (length l) h) (none-taken s)
+
+-- word i of four that are there
+four-word : (l : List ℕ) (first i : ℕ) → first + 4 ≤ length l → i < 4 → wordIn l (first + i) ≡ wordIn (fourAt l first) i
 unfolding fourAt components
-four-there l first h = rw (le-leb (first + 4) (length l) h) (rw (add-zero first))
+four-word l first zero h b = rw (le-leb (first + 4) (length l) h)
+four-word l first (suc zero) h b = rw (le-leb (first + 4) (length l) h)
+four-word l first (suc (suc zero)) h b = rw (le-leb (first + 4) (length l) h)
+four-word l first (suc (suc (suc zero))) h b = rw (le-leb (first + 4) (length l) h)
+four-word l first (suc (suc (suc (suc i)))) h b = absurd (omega arith)
 
 pub selected-below : (swizzle i k : ℕ) → k ≡ selected swizzle i → k < 4
 selected-below swizzle i k e = rw e (mod-lt (swizzle / 2 ^ (2 * i)) (omega arith))
@@ -114,12 +137,30 @@ module _ (l : List ℕ) (s : Source) (i j k m : ℕ) (ei : i ≡ selected (s .sw
   unfolding taken components
   by-way f h = rw (ei, ej, ek, em) (sym (simp h))
 
-  pub taken-plain : (s .modifier % 2 ≡ 1 → ⊥) → getD l i 0 ∷ getD l j 0 ∷ getD l k 0 ∷ getD l m 0 ∷ [] ≡ taken l s
+  taken-plain : (s .modifier % 2 ≡ 1 → ⊥) → getD l i 0 ∷ getD l j 0 ∷ getD l k 0 ∷ getD l m 0 ∷ [] ≡ taken l s
   taken-plain h = by-way (λ w. w) (λ w. rw (ne-eqb (s .modifier % 2) 1 h))
 
-  pub taken-negated : (x y z w : ℕ) → s .modifier % 2 ≡ 1 → x ≡ neg 32 (getD l i 0) → y ≡ neg 32 (getD l j 0) → z ≡ neg 32 (getD l k 0) → w ≡ neg 32 (getD l m 0)
+  taken-negated : (x y z w : ℕ) → s .modifier % 2 ≡ 1 → x ≡ neg 32 (getD l i 0) → y ≡ neg 32 (getD l j 0) → z ≡ neg 32 (getD l k 0) → w ≡ neg 32 (getD l m 0)
       → x ∷ y ∷ z ∷ w ∷ [] ≡ taken l s
   taken-negated x y z w h ex ey ez ew = rw (ex, ey, ez, ew) (by-way (neg 32) (λ w. rw h))
+
+pub word-there : (l : List ℕ) (first swizzle i k : ℕ) → first + 4 ≤ length l → k ≡ selected swizzle i → first + k < length l
+word-there l first swizzle i k there e = omega (arith, selected-below swizzle i k e)
+
+module _ (l : List ℕ) (first : ℕ) (s : Source) (i j k m : ℕ) (there : first + 4 ≤ length l)
+    (ei : i ≡ selected (s .swizzle) 0) (ej : j ≡ selected (s .swizzle) 1) (ek : k ≡ selected (s .swizzle) 2) (em : m ≡ selected (s .swizzle) 3)
+  where
+    word : (c n : ℕ) → n ≡ selected (s .swizzle) c → wordIn l (first + n) ≡ wordIn (fourAt l first) n
+    word c n e = four-word l first n there (selected-below (s .swizzle) c n e)
+
+    pub pick-plain : (s .modifier % 2 ≡ 1 → ⊥) → wordIn l (first + i) ∷ wordIn l (first + j) ∷ wordIn l (first + k) ∷ wordIn l (first + m) ∷ [] ≡ taken (fourAt l first) s
+    pick-plain h = rw (word 0 i ei, word 1 j ej, word 2 k ek, word 3 m em) (taken-plain (fourAt l first) s i j k m ei ej ek em h)
+
+    pub pick-negated : (x y z w : ℕ) → s .modifier % 2 ≡ 1 → x ≡ neg 32 (wordIn l (first + i)) → y ≡ neg 32 (wordIn l (first + j)) → z ≡ neg 32 (wordIn l (first + k)) → w ≡ neg 32 (wordIn l (first + m))
+        → x ∷ y ∷ z ∷ w ∷ [] ≡ taken (fourAt l first) s
+    pick-negated x y z w h ex ey ez ew =
+        taken-negated (fourAt l first) s i j k m ei ej ek em x y z w h
+        (ex ∙ ap (neg 32) (word 0 i ei)) (ey ∙ ap (neg 32) (word 1 j ej)) (ez ∙ ap (neg 32) (word 2 k ek)) (ew ∙ ap (neg 32) (word 3 m em))
 
 -- ---- the register of each file
 
@@ -137,39 +178,57 @@ four-whole l m n long = on (leb (4 * n + 4) (length l)) refl
         let past : length l ≤ 4 * n = omega (arith, leb-false (4 * n + 4) (length l) h) in
         cc (none past 0, none past 1, none past 2, none past 3)
 
-module _ (bank r : List ℕ) (f n : ℕ) (l v : List ℕ) (ev : v ≡ fourAt l (4 * n)) where
-  abbrev words : List ℕ
-  words = registerWords (envIn bank) r f n
-
-  pub register-const : f ≡ 1 → l ≡ part bank 0 4096 → length l ≡ 4096 → v ≡ words
+module _ (bank r : List ℕ) (f n : ℕ) (l : List ℕ) where
+  const-words : f ≡ 1 → l ≡ part bank 0 4096 → length l ≡ 4096 → fourAt l (4 * n) ≡ registerWords (envIn bank) r f n
   unfolding registerWords
-  register-const h el long = rw (h, ← el) (ev ∙ four-whole l 1024 n long)
+  const-words h el long = rw (h, ← el) (four-whole l 1024 n long)
 
-  pub register-in : f ≡ 2 → l ≡ part bank 4096 128 → length l ≡ 128 → v ≡ words
+  in-words : f ≡ 2 → l ≡ part bank 4096 128 → length l ≡ 128 → fourAt l (4 * n) ≡ registerWords (envIn bank) r f n
   unfolding registerWords
-  register-in h el long = rw (h, ← el) (ev ∙ four-whole l 32 n long)
+  in-words h el long = rw (h, ← el) (four-whole l 32 n long)
 
-  pub register-imm : f ≡ 6 → l ≡ part bank 4224 1024 → length l ≡ 1024 → v ≡ words
+  imm-words : f ≡ 6 → l ≡ part bank 4224 1024 → length l ≡ 1024 → fourAt l (4 * n) ≡ registerWords (envIn bank) r f n
   unfolding registerWords
-  register-imm h el long = rw (h, ← el) (ev ∙ four-whole l 256 n long)
+  imm-words h el long = rw (h, ← el) (four-whole l 256 n long)
 
 module _ (e : Env) (r : List ℕ) (f n : ℕ) where
-  pub register-temp : (v : List ℕ) → f ≡ 4 → v ≡ fourAt r (128 + 4 * n) → v ≡ registerWords e r f n
+  temp-words : f ≡ 4 → fourAt r (128 + 4 * n) ≡ registerWords e r f n
   unfolding registerWords
-  register-temp v h ev = rw h ev
+  temp-words h = rw h
 
-  pub register-none : (f ≡ 1 → ⊥) → (f ≡ 2 → ⊥) → (f ≡ 4 → ⊥) → (f ≡ 6 → ⊥) → zeros ≡ registerWords e r f n
+  no-words : (f ≡ 1 → ⊥) → (f ≡ 2 → ⊥) → (f ≡ 4 → ⊥) → (f ≡ 6 → ⊥) → zeros ≡ registerWords e r f n
   unfolding registerWords
-  register-none a b c d = simp (ne-eqb f 1 a, ne-eqb f 2 b, ne-eqb f 4 c, ne-eqb f 6 d)
+  no-words a b c d = simp (ne-eqb f 1 a, ne-eqb f 2 b, ne-eqb f 4 c, ne-eqb f 6 d)
+
+-- what a source takes of them
+module _ (bank r : List ℕ) (s : Source) (n : ℕ) (l v : List ℕ) (ev : v ≡ taken (fourAt l (4 * n)) s) where
+  abbrev from-register : List ℕ
+  from-register = taken (registerWords (envIn bank) r (s .file) n) s
+
+  pub register-const : s .file ≡ 1 → l ≡ part bank 0 4096 → length l ≡ 4096 → v ≡ from-register
+  register-const h el long = ev ∙ ap (λ (q : List ℕ). taken q s) (const-words bank r (s .file) n l h el long)
+
+  pub register-in : s .file ≡ 2 → l ≡ part bank 4096 128 → length l ≡ 128 → v ≡ from-register
+  register-in h el long = ev ∙ ap (λ (q : List ℕ). taken q s) (in-words bank r (s .file) n l h el long)
+
+  pub register-imm : s .file ≡ 6 → l ≡ part bank 4224 1024 → length l ≡ 1024 → v ≡ from-register
+  register-imm h el long = ev ∙ ap (λ (q : List ℕ). taken q s) (imm-words bank r (s .file) n l h el long)
+
+module _ (e : Env) (r : List ℕ) (s : Source) (n : ℕ) where
+  pub register-temp : (v : List ℕ) → s .file ≡ 4 → v ≡ taken (fourAt r (128 + 4 * n)) s → v ≡ taken (registerWords e r (s .file) n) s
+  register-temp v h ev = ev ∙ ap (λ (q : List ℕ). taken q s) (temp-words e r (s .file) n h)
+
+  pub register-none : (s .file ≡ 1 → ⊥) → (s .file ≡ 2 → ⊥) → (s .file ≡ 4 → ⊥) → (s .file ≡ 6 → ⊥) → zeros ≡ taken (registerWords e r (s .file) n) s
+  register-none a b c d = none-taken s ∙ ap (λ (q : List ℕ). taken q s) (no-words e r (s .file) n a b c d)
 
 module _ (e : Env) (r : List ℕ) (s : Source) (p : Place) (ep : p ≡ registerOf (e .declared) r s) where
   pub source-nowhere : p ≡ Nowhere → zeros ≡ sourceOf e r s
   unfolding sourceOf
   source-nowhere h = rw (← ep, h)
 
-  pub source-register : (n : ℕ) (l v : List ℕ) → p ≡ Register n → l ≡ registerWords e r (s .file) n → v ≡ taken l s → v ≡ sourceOf e r s
+  pub source-register : (n : ℕ) (v : List ℕ) → p ≡ Register n → v ≡ taken (registerWords e r (s .file) n) s → v ≡ sourceOf e r s
   unfolding sourceOf
-  source-register n l v h el ev = rw (← ep, h, ← el) ev
+  source-register n v h ev = rw (← ep, h) ev
 
 -- ---- all sources of a record: no kind has more than four; after k of them have been read, those from k on are still 0
 

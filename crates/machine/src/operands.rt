@@ -86,48 +86,38 @@ fn select(swizzle: u8, i: u8) -> u8
     (swizzle >> (2 * i)) % 4
 }
 
-// The four words from `first` on, 0 where they are not all there.
-fn four_at(words: &[u32], first: usize) -> [u32; 4]
+// What a source takes of the four words from `first` on, 0 where they are not all there. Each word is read by itself: a register
+// that was just written word by word is not yet to be had as a whole.
+fn pick(words: &[u32], first: usize, s: Source) -> [u32; 4]
     requires { ⌜ first < 2 ^ 40 ⌝ }
-    ensures { λ r. ⌜ r ≡ fourAt (now (words .entry)) first ⌝ }
+    ensures { λ r. ⌜ r ≡ taken (fourAt (now (words .entry)) first) s ⌝ }
 {
     if words.len() < first + 4 {
         return [0, 0, 0, 0];
     }
-    [
-        words[first],
-        words[first + 1],
-        words[first + 2],
-        words[first + 3],
-    ]
-}
-
-// The words of register n of a file.
-fn register_words(file: u8, n: u32, bank: &Bank, registers: &[u32]) -> [u32; 4]
-    ensures { λ r. ⌜ r ≡ registerWords (envIn (now (bank .entry))) (now (registers .entry)) file n ⌝ }
-{
-    let first = 4 * n as usize;
-    match file {
-        1 => four_at(parts::constants(bank), first),
-        2 => four_at(parts::inputs(bank), first),
-        4 => four_at(registers, 128 + first),
-        6 => four_at(parts::immediates(bank), first),
-        _ => [0, 0, 0, 0],
-    }
-}
-
-// What a source takes of a register's words.
-fn components(words: &[u32; 4], s: Source) -> [u32; 4]
-    ensures { λ r. ⌜ r ≡ taken (now (words .entry)) s ⌝ }
-{
-    let x = words[select(s.swizzle, 0) as usize];
-    let y = words[select(s.swizzle, 1) as usize];
-    let z = words[select(s.swizzle, 2) as usize];
-    let w = words[select(s.swizzle, 3) as usize];
+    let x = words[first + select(s.swizzle, 0) as usize];
+    let y = words[first + select(s.swizzle, 1) as usize];
+    let z = words[first + select(s.swizzle, 2) as usize];
+    let w = words[first + select(s.swizzle, 3) as usize];
     if s.modifier % 2 == 1 {
         [neg32(x), neg32(y), neg32(z), neg32(w)]
     } else {
         [x, y, z, w]
+    }
+}
+
+// What a source takes of register n of its file.
+fn pick_register(n: u32, s: Source, bank: &Bank, registers: &[u32]) -> [u32; 4]
+    ensures { λ r. ⌜ r ≡ taken (registerWords (envIn (now (bank .entry))) (now (registers .entry)) (s .file) n) s ⌝ }
+{
+    let first = 4 * n as usize;
+    let file = s.file;
+    match file {
+        1 => pick(parts::constants(bank), first, s),
+        2 => pick(parts::inputs(bank), first, s),
+        4 => pick(registers, 128 + first, s),
+        6 => pick(parts::immediates(bank), first, s),
+        _ => [0, 0, 0, 0],
     }
 }
 
@@ -137,10 +127,7 @@ fn read(s: Source, bank: &Bank, registers: &[u32]) -> [u32; 4]
 {
     let place = register_of(s, bank, registers);
     match place {
-        Place::Register(n) => {
-            let words = register_words(s.file, n, bank, registers);
-            components(&words, s)
-        }
+        Place::Register(n) => pick_register(n, s, bank, registers),
         Place::Nowhere => [0, 0, 0, 0],
     }
 }

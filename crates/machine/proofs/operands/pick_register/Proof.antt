@@ -1,11 +1,11 @@
 -- The register of each file that a source may name.
 use Rattle.machine.proofs.Sources.{register-const, register-imm, register-in, register-none, register-temp}
 use borrow.Author.Needs.{needs}
-use Rattle.machine.proofs.operands.register_words.Statement.{statement}
-use Rattle.machine.proofs.operands.register_words.Tie as tie
+use Rattle.machine.proofs.operands.pick_register.Statement.{statement}
+use Rattle.machine.proofs.operands.pick_register.Tie as tie
 
-pub register-words-spec : {M : Type 1} → statement M
-register-words-spec =
+pub pick-register-spec : {M : Type 1} → statement M
+pick-register-spec =
     tie.close
     (tie.spec
     (search needs) (search needs) (search needs) (search needs) (search needs) (search needs) (search needs)
