@@ -18,10 +18,6 @@ const PROGRAMS: [(&str, &str); 3] = [
 /// The programs count to IN[0].x; so many rounds take over 50 ms.
 const ROUNDS: u32 = 800_000;
 const REPEATS: usize = 7;
-/// Each repeat lends its registers so many words further on: where they have the low address bits of what a runner keeps on
-/// its stack, a processor takes the one for the other and waits, and that is a matter of luck and not of the runner.
-const SHIFT: usize = 144;
-
 /// Document 01's case 12: a run of two steps, nearly all of it check, prepare and clearing.
 const SMALLEST: &str = "010300000000 0219000000000000000000000000000000 1003000001060000E400 89";
 const SMALLEST_RUNS: usize = 1000;
@@ -39,15 +35,15 @@ fn least_time(mut work: impl FnMut()) -> f64 {
 }
 
 /// One whole run: the answer, the words it leaves, and its time.
-fn run(runner: &dyn Runner, file: &[u8], repeat: usize) -> (Answer, Vec<u32>, f64) {
-    let (mut room, mut work) = (vec![0; REGISTER_WORDS + REPEATS * SHIFT], vec![0; 3 * 1024]);
-    let registers = &mut room[repeat * SHIFT..][..REGISTER_WORDS];
+fn run(runner: &dyn Runner, file: &[u8]) -> (Answer, Vec<u32>, f64) {
+    let (mut registers, mut work) = (vec![0; REGISTER_WORDS], vec![0; 3 * 1024]);
     let mut memory = vec![0; MOST_MEMORY];
     let mut answer = Answer::done(0);
     let (inputs, constants) = (&[ROUNDS, 0, 0, 0], &[]);
-    let lent = Lent { inputs, constants, registers: &mut *registers, work: &mut work, memory: &mut memory };
+    let lent = Lent { inputs, constants, registers: &mut registers, work: &mut work, memory: &mut memory };
     let time = time(|| answer = runner.run(file, lent, u32::MAX));
-    (answer, [registers.to_vec(), memory].concat(), time)
+    registers.append(&mut memory);
+    (answer, registers, time)
 }
 
 /// The time of the smallest run in microseconds.
@@ -67,12 +63,12 @@ fn smallest_run(runner: &dyn Runner) -> f64 {
 /// Measures a program; false if the runners do not leave the same. They take turns, so that a busy machine is busy
 /// for all of them.
 fn bench_program(runners: &[&dyn Runner], file: &[u8]) -> bool {
-    let (wanted, words, _) = run(runners[0], file, 0);
+    let (wanted, words, _) = run(runners[0], file);
     let mut same = true;
     let mut least = vec![f64::INFINITY; runners.len()];
-    for repeat in 0..REPEATS {
+    for _ in 0..REPEATS {
         for (runner, least) in runners.iter().zip(&mut least) {
-            let (answer, left, time) = run(*runner, file, repeat);
+            let (answer, left, time) = run(*runner, file);
             same &= answer == wanted && left == words;
             *least = least.min(time);
         }
@@ -90,7 +86,7 @@ pub fn bench(product: Option<&dyn Runner>, second: &dyn Runner, plain: &dyn Runn
     let runners: Vec<&dyn Runner> = [plain].into_iter().chain(product).chain([second]).collect();
     for (name, text) in PROGRAMS {
         let file = from_hex(text);
-        println!("{name}: {} bytes, {} steps", file.len(), run(plain, &file, 0).0.first);
+        println!("{name}: {} bytes, {} steps", file.len(), run(plain, &file).0.first);
         same &= bench_program(&runners, &file);
     }
     if !same {

@@ -86,8 +86,7 @@ fn select(swizzle: u8, i: u8) -> u8
     (swizzle >> (2 * i)) % 4
 }
 
-// What a source takes of the four words from `first` on, 0 where they are not all there. Each word is read by itself: a register
-// that was just written word by word is not yet to be had as a whole.
+// What a source takes of the four words from `first` on, 0 where they are not all there.
 fn pick(words: &[u32], first: usize, s: Source) -> [u32; 4]
     requires { ⌜ first < 2 ^ 40 ⌝ }
     ensures { λ r. ⌜ r ≡ taken (fourAt (now (words .entry)) first) s ⌝ }
