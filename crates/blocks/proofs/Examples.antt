@@ -2,12 +2,12 @@
 -- Assumes nothing.
 use mathlib.Core.Path.{_≡_, refl}
 use Prim.Native.Nat.{ℕ, _-_}
-use mathlib.Core.Bool.{true, false}
+use mathlib.Core.Bool.{true, false, cond}
 use mathlib.Core.List.{List, [], _∷_}
 use lib.ListN.{getD, replicate}
 use Rattle.format.specs.Kinds.{lengthOf}
 use Rattle.format.specs.Records.{sizeAt, next, placeFrom}
-use Rattle.blocks.specs.Control.{DEFAULT, UIF, CASE, Machine, opOf, opAt}
+use Rattle.blocks.specs.Control.{PLAIN, DEFAULT, UIF, CASE, is, Machine, opOf, opAt}
 use Rattle.blocks.specs.Lists.{nil, one, loop, switch, listFrom, nestedLists}
 use Rattle.blocks.specs.Nesting.{openLoop, openSwitch, refused, rule, accepts}
 use Rattle.blocks.specs.Prepared.{tableWords}
@@ -18,7 +18,7 @@ use Rattle.blocks.specs.Table.{row, rowAt, firstLabel, rows, table, word
 -- A machine over one number: PLAIN takes one off, UIF and SWITCH look at the number, the words of the CASEs are listed.
 abbrev countdown : List ℕ → List ℕ → Machine ℕ
 countdown kinds words =
-    record { kind = λ n. getD kinds n 0; effect = λ n s. s - 1; test = λ n s. s; value = λ n. getD words n 0 }
+    record { kind = λ n. getD kinds n 0; effect = λ n s. cond (is PLAIN (opOf (getD kinds n 0))) (s - 1) s; test = λ n s. s; value = λ n. getD words n 0 }
 
 -- Case 13: BGNLOOP, SWITCH, CASE, BRK, ENDSWITCH, BRK, ENDLOOP, END with the CASE equal: five steps.
 abbrev case13 : Machine ℕ

@@ -89,20 +89,20 @@ module _ (N : ℕ) where
         on true = h
         on false = f (suc c) s
 
-    single-below : (o : Op) (n c : ℕ) (s : S) → HaltsBelow (single M budget o n c s)
-    single-below PLAIN n c s = tt
-    single-below BRK n c s = tt
-    single-below CONT n c s = tt
-    single-below END n c s = tt
-    single-below ELSE n c s = tt
-    single-below ENDIF n c s = tt
-    single-below BGNLOOP n c s = tt
-    single-below ENDLOOP n c s = tt
-    single-below DEFAULT n c s = tt
-    single-below ENDSWITCH n c s = tt
-    single-below UIF n c s = tt
-    single-below SWITCH n c s = tt
-    single-below CASE n c s = tt
+    single-below : (o : Op) (c : ℕ) (s : S) → HaltsBelow (single M budget o c s)
+    single-below PLAIN c s = tt
+    single-below BRK c s = tt
+    single-below CONT c s = tt
+    single-below END c s = tt
+    single-below ELSE c s = tt
+    single-below ENDIF c s = tt
+    single-below BGNLOOP c s = tt
+    single-below ENDLOOP c s = tt
+    single-below DEFAULT c s = tt
+    single-below ENDSWITCH c s = tt
+    single-below UIF c s = tt
+    single-below SWITCH c s = tt
+    single-below CASE c s = tt
 
     chosen-below : (t : Bool) (f g : ℕ → S → Reading S) → ((c : ℕ) (s : S) → HaltsBelow (f c s)) → ((c : ℕ) (s : S) → HaltsBelow (g c s)) → (c : ℕ) (s : S) → HaltsBelow (cond t f g c s)
     chosen-below true f g hf hg c s = hf c s
@@ -115,7 +115,7 @@ module _ (N : ℕ) where
 
       -- A SWITCH's list from just past the label that its x comes to.
       abbrev labelled : ℕ → Items → ℕ → S → Reading S
-      labelled n l c s = past M budget l again (caseOf M (M .test n s)) (λ c s. past M budget l again (defaultAt M) out c s) c s
+      labelled n l c s = past M budget l again (caseOf M (M .test n s)) (λ c s. past M budget l again (defaultAt M) out c s) c (M .effect n s)
 
       abbrev Fine : Items → Type 0
       Fine l =
@@ -127,23 +127,23 @@ module _ (N : ℕ) where
       read-below nil h = ((λ c s. tt), (λ fits other ho c s. ho c s))
       read-below (one n rest) h =
           let f : Fine rest = read-below rest (h .1) in (
-            charged-below n (h .0) (λ c s. next (single M budget (opAt M n) n c s) (reads rest))
-                (λ c s. next-below (single M budget (opAt M n) n c s) (single-below (opAt M n) n c s) (reads rest) (f .0)),
+            charged-below n (h .0) (λ c s. next (single M budget (opAt M n) c (M .effect n s)) (reads rest))
+                (λ c s. next-below (single M budget (opAt M n) c (M .effect n s)) (single-below (opAt M n) c (M .effect n s)) (reads rest) (f .0)),
             (λ fits other ho c s. chosen-below (fits n) (λ c s. reads rest c s) (past M budget rest again fits other) (f .0) (f .1 fits other ho) c s),
           )
       read-below (uif n p q rest) h =
           let fp : Fine p = read-below p (h .1) in
           let fq : Fine q = read-below q (h .2) in
           let f : Fine rest = read-below rest (h .3) in (
-            charged-below n (h .0) (λ c s. next (cond (eqb (M .test n s) 0) (reads q) (reads p) c s) (reads rest))
-                (λ c s. next-below (cond (eqb (M .test n s) 0) (reads q) (reads p) c s)
-                (chosen-below (eqb (M .test n s) 0) (reads q) (reads p) (fq .0) (fp .0) c s) (reads rest) (f .0)),
+            charged-below n (h .0) (λ c s. next (cond (eqb (M .test n s) 0) (reads q) (reads p) c (M .effect n s)) (reads rest))
+                (λ c s. next-below (cond (eqb (M .test n s) 0) (reads q) (reads p) c (M .effect n s))
+                (chosen-below (eqb (M .test n s) 0) (reads q) (reads p) (fq .0) (fp .0) c (M .effect n s)) (reads rest) (f .0)),
             f .1,
           )
       read-below (loop n l rest) h =
           let f : Fine rest = read-below rest (h .2) in (
-            charged-below n (h .0) (λ c s. next (again l c s) (reads rest))
-                (λ c s. next-below (again l c s) (ha l (h .1) c s) (reads rest) (f .0)),
+            charged-below n (h .0) (λ c s. next (again l c (M .effect n s)) (reads rest))
+                (λ c s. next-below (again l c (M .effect n s)) (ha l (h .1) c (M .effect n s)) (reads rest) (f .0)),
             f .1,
           )
       read-below (switch n l rest) h =
@@ -151,7 +151,7 @@ module _ (N : ℕ) where
           let f : Fine rest = read-below rest (h .2) in (
             charged-below n (h .0) (λ c s. next (leave (labelled n l c s)) (reads rest))
                 (λ c s. next-below (leave (labelled n l c s)) (leave-below (labelled n l c s)
-                (fl .1 (caseOf M (M .test n s)) (λ c s. past M budget l again (defaultAt M) out c s) (fl .1 (defaultAt M) out (λ c s. tt)) c s))
+                (fl .1 (caseOf M (M .test n s)) (λ c s. past M budget l again (defaultAt M) out c s) (fl .1 (defaultAt M) out (λ c s. tt)) c (M .effect n s)))
                 (reads rest) (f .0)),
             f .1,
           )

@@ -92,7 +92,7 @@ module _ {S : Type 0} (M M′ : Machine S) (T : ℕ → Row) (budget : ℕ) wher
 
   -- One step of it.
   abbrev goes : Op → ℕ → ℕ → S → Reading S
-  goes o c n s = follow (go (suc c)) (suc c) (comesNext M T o (M′ .test n s) n) (cond (is PLAIN o) (M′ .effect n s) s)
+  goes o c n s = follow (go (suc c)) (suc c) (comesNext M T o (M′ .test n s) n) (M′ .effect n s)
 
   go-spent : (n : ℕ) (s : S) → go budget n s ≡ halted n budget s
   unfolding go run
@@ -251,16 +251,16 @@ module _ {S : Type 0} (M M′ : Machine S) (T : ℕ → Row) (budget : ℕ) wher
         → Reads (exits C t e) (one n rest) n
     unfolding read
     one-reads C t e n rest fine row ih c s h hf =
-        charge (exits C t e) n c s (λ c s. next (single M′ budget (op n) n c s) (reads rest)) (row .1) h
+        charge (exits C t e) n c s (λ c s. next (single M′ budget (op n) c (M′ .effect n s)) (reads rest)) (row .1) h
         λ h′. on h′ (op n) fine (row .0)
       where
         on : c < budget → (o : Op) → Fine o C (hasDefault op rest) → T n ≡ rowOf op o t rest
-            → Sim (exits C t e) (suc c) (goes o c n s) (next (single M′ budget o n (suc c) s) (reads rest))
+            → Sim (exits C t e) (suc c) (goes o c n s) (next (single M′ budget o (suc c) (M′ .effect n s)) (reads rest))
         on h′ PLAIN fine row = weaken (omega arith) (ih (suc c) (M′ .effect n s) h′ (omega arith))
         on h′ BRK fine row = record { runs = rw (row, fine); bound = omega arith }
         on h′ CONT fine row = record { runs = rw (row, fine); bound = omega arith }
-        on h′ CASE fine row = weaken (omega arith) (ih (suc c) s h′ (omega arith))
-        on h′ DEFAULT fine row = weaken (omega arith) (ih (suc c) s h′ (omega arith))
+        on h′ CASE fine row = weaken (omega arith) (ih (suc c) (M′ .effect n s) h′ (omega arith))
+        on h′ DEFAULT fine row = weaken (omega arith) (ih (suc c) (M′ .effect n s) h′ (omega arith))
         on h′ ELSE fine row = absurd fine
         on h′ ENDIF fine row = absurd fine
         on h′ BGNLOOP fine row = absurd fine
@@ -351,12 +351,12 @@ module _ {S : Type 0} (M M′ : Machine S) (T : ℕ → Row) (budget : ℕ) wher
         → Reads (exits C t e) (one n nil) n
     unfolding read
     close-reads C t e n o he row c s h hf =
-        charge (exits C t e) n c s (λ c s. next (single M′ budget (op n) n c s) (reads nil)) (row .1) h
+        charge (exits C t e) n c s (λ c s. next (single M′ budget (op n) c (M′ .effect n s)) (reads nil)) (row .1) h
         λ h′. rw o (on h′ (C .close) (rw o at (row .0)))
       where
         on : c < budget → (z : Close) → T n ≡ rowOf op (closing z) t nil
             → Sim (exits (partOf C z) t e) (suc c) (goes (closing z) c n s)
-            (next (single M′ budget (closing z) n (suc c) s) (reads nil))
+            (next (single M′ budget (closing z) (suc c) (M′ .effect n s)) (reads nil))
         on h′ atElse row = record { runs = rw row; bound = omega arith }
         on h′ atEndif row = record { runs = rw he; bound = omega arith }
         on h′ atEndloop row = record { runs = rw row; bound = omega arith }
@@ -382,13 +382,13 @@ module _ {S : Type 0} (M M′ : Machine S) (T : ℕ → Row) (budget : ℕ) wher
         → Reads E (uif n p q rest) n
     unfolding read
     uif-reads E x n p q rest o row first second ih c s h hf =
-        charge E n c s (λ c s. next (cond (eqb (M′ .test n s) 0) (reads q) (reads p) c s) (reads rest)) (row .1) h
+        charge E n c s (λ c s. next (cond (eqb (M′ .test n s) 0) (reads q) (reads p) c (M′ .effect n s)) (reads rest)) (row .1) h
         λ h′. rw (o, row .0) (on h′ (eqb (M′ .test n s) 0))
       where
         on : c < budget → (v : Bool)
-            → Sim E (suc c) (go (suc c) (cond v (suc n + size p) (suc n)) s) (next (cond v (reads q) (reads p) (suc c) s) (reads rest))
-        on h′ true = after E x (suc c) _ _ rest (omega arith) (second (suc c) s h′ (omega arith)) ih
-        on h′ false = after E x (suc c) _ _ rest (omega arith) (weaken (omega arith) (first (suc c) s h′ (omega arith))) ih
+            → Sim E (suc c) (go (suc c) (cond v (suc n + size p) (suc n)) (M′ .effect n s)) (next (cond v (reads q) (reads p) (suc c) (M′ .effect n s)) (reads rest))
+        on h′ true = after E x (suc c) _ _ rest (omega arith) (second (suc c) (M′ .effect n s) h′ (omega arith)) ih
+        on h′ false = after E x (suc c) _ _ rest (omega arith) (weaken (omega arith) (first (suc c) (M′ .effect n s) h′ (omega arith))) ih
 
     loop-reads : (E : Exits) (n : ℕ) (l rest : Items)
         → Rounds
@@ -401,9 +401,9 @@ module _ {S : Type 0} (M M′ : Machine S) (T : ℕ → Row) (budget : ℕ) wher
         → Reads E (loop n l rest) n
     unfolding read
     loop-reads E n l rest ok o same w holds hs ih c s h hf =
-        charge E n c s (λ c s. next (again l c s) (reads rest)) same h
+        charge E n c s (λ c s. next (again l c (M′ .effect n s)) (reads rest)) same h
         λ h′. rw o
-        (after E (suc n + size l) (suc c) _ _ rest (omega arith) (ok E l n (suc c) s w holds hs h′ (omega arith)) ih)
+        (after E (suc n + size l) (suc c) _ _ rest (omega arith) (ok E l n (suc c) (M′ .effect n s) w holds hs h′ (omega arith)) ih)
 
     switch-reads : (E : Exits) (n : ℕ) (l rest : Items)
         → op n ≡ SWITCH
@@ -414,11 +414,11 @@ module _ {S : Type 0} (M M′ : Machine S) (T : ℕ → Row) (budget : ℕ) wher
         → Reads E (switch n l rest) n
     unfolding read
     switch-reads E n l rest o row hs inside ih c s h hf =
-        charge E n c s (λ c s. next (leave (pasts (M′ .test n s) l out c s)) (reads rest)) (row .1) h
+        charge E n c s (λ c s. next (leave (pasts (M′ .test n s) l out c (M′ .effect n s))) (reads rest)) (row .1) h
         λ h′. rw (o, row .0)
         (after E (suc n + size l) (suc c) _ _ rest (omega arith)
         (leave-sim E (suc n + size l) (suc c) _ _
-        (inside (suc c) s (M′ .test n s) mostInstructions (suc n + size l) out h′ (omega arith) hs (omega arith)
+        (inside (suc c) (M′ .effect n s) (M′ .test n s) mostInstructions (suc n + size l) out h′ (omega arith) hs (omega arith)
         (record { runs = refl; bound = omega arith })))
         ih)
 

@@ -47,7 +47,7 @@ is o p = eqb (kindOf o) (kindOf p)
 abbrev pub isLabel : Op → Bool
 isLabel o = is CASE o || is DEFAULT o
 
--- A program over states S. Of instruction n: its kind byte, its effect where it is PLAIN, the x that a UIF or a SWITCH
+-- A program over states S. Of instruction n: its kind byte, its effect, the x that a UIF or a SWITCH
 -- looks at, and the word of a CASE.
 pub record Machine (S : Type 0) : Type 0 where
   pub kind : ℕ → ℕ

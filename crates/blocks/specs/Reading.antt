@@ -45,21 +45,21 @@ module _ {S : Type 0} (M : Machine S) (budget : ℕ) where
   abbrev pub charged : ℕ → (ℕ → S → Reading S) → ℕ → S → Reading S
   charged n result c s = cond (eqb c budget) (halted n) (λ c s. result (suc c) s) c s
 
-  -- An instruction that opens no block. "Labels and closing marks only count."
-  abbrev pub single : Op → ℕ → ℕ → S → Reading S
-  single PLAIN n c s = out c (M .effect n s)
-  single BRK n c s = brk c s
-  single CONT n c s = cont c s
-  single END n c s = ended c s
-  single ELSE n c s = out c s
-  single ENDIF n c s = out c s
-  single BGNLOOP n c s = out c s
-  single ENDLOOP n c s = out c s
-  single DEFAULT n c s = out c s
-  single ENDSWITCH n c s = out c s
-  single UIF n c s = out c s
-  single SWITCH n c s = out c s
-  single CASE n c s = out c s
+  -- How a list stops or goes on after an instruction that opens no block, from the state that it leaves.
+  abbrev pub single : Op → ℕ → S → Reading S
+  single BRK c s = brk c s
+  single CONT c s = cont c s
+  single END c s = ended c s
+  single PLAIN c s = out c s
+  single ELSE c s = out c s
+  single ENDIF c s = out c s
+  single BGNLOOP c s = out c s
+  single ENDLOOP c s = out c s
+  single DEFAULT c s = out c s
+  single ENDSWITCH c s = out c s
+  single UIF c s = out c s
+  single SWITCH c s = out c s
+  single CASE c s = out c s
 
   unfoldable mutual
     -- A list is read from count c and state s; `rounds` reads a loop's list.
@@ -68,14 +68,14 @@ module _ {S : Type 0} (M : Machine S) (budget : ℕ) where
     pub read : Items → (Items → ℕ → S → Reading S) → ℕ → S → Reading S
     read nil rounds c s = out c s
     read (one n rest) rounds c s =
-        charged n (λ c s. next (single (opAt M n) n c s) (read rest rounds)) c s
+        charged n (λ c s. next (single (opAt M n) c (M .effect n s)) (read rest rounds)) c s
     read (uif n p q rest) rounds c s =
-        charged n (λ c s. next (cond (eqb (M .test n s) 0) (read q rounds) (read p rounds) c s) (read rest rounds)) c s
-    read (loop n l rest) rounds c s = charged n (λ c s. next (rounds l c s) (read rest rounds)) c s
+        charged n (λ c s. next (cond (eqb (M .test n s) 0) (read q rounds) (read p rounds) c (M .effect n s)) (read rest rounds)) c s
+    read (loop n l rest) rounds c s = charged n (λ c s. next (rounds l c (M .effect n s)) (read rest rounds)) c s
     read (switch n l rest) rounds c s =
         charged n
         (λ c s. next
-        (leave (past l rounds (caseOf M (M .test n s)) (λ c s. past l rounds (defaultAt M) out c s) c s))
+        (leave (past l rounds (caseOf M (M .test n s)) (λ c s. past l rounds (defaultAt M) out c s) c (M .effect n s)))
         (read rest rounds))
         c
         s

@@ -53,11 +53,11 @@ module _ {S : Type 0} (M : Machine S) (T : ℕ → Row) where
   comesNext BGNLOOP x n = At (suc n)
   comesNext ENDSWITCH x n = At (suc n)
 
-  -- One step at instruction n. Only PLAIN changes the state.
+  -- One step at instruction n.
   abbrev pub step : ℕ → S → Step S
   step n s = record {
     next = comesNext (opAt M n) (M .test n s) n;
-    state = cond (is PLAIN (opAt M n)) (M .effect n s) s;
+    state = M .effect n s;
   }
 
   -- At most `left` steps from instruction n on, with c steps before. "With the budget spent before END, the result is a halt

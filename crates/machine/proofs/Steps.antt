@@ -50,7 +50,7 @@ module _ (e : Env) (file rows : List ℕ) (n : ℕ) (r m : List ℕ) where
     stepAs o =
         record {
           next = comesNext machine (rowIn rows) o (testOf e r bytes) n;
-          state = cond (is PLAIN o) (recordEffect e bytes (state r m)) (state r m);
+          state = recordEffect e bytes (state r m);
         }
 
     kind-is : k ≡ machine .kind n
@@ -63,23 +63,28 @@ module _ (e : Env) (file rows : List ℕ) (n : ℕ) (r m : List ℕ) where
 
     -- ---- control instructions, which leave the state
 
-    control : (o : Op) (q : ℕ) → opOf q ≡ o → is PLAIN o ≡ false → (next : Next) → k ≡ q → next ≡ comesNext machine (rowIn rows) o (testOf e r bytes) n
+    no-effect : familyOf k ≡ NONE → state r m ≡ recordEffect e bytes (state r m)
+    unfolding recordEffect
+    no-effect f = rw (← ek, f)
+
+    control : (o : Op) (q : ℕ) → opOf q ≡ o → familyOf q ≡ NONE → (next : Next) → k ≡ q → next ≡ comesNext machine (rowIn rows) o (testOf e r bytes) n
         → stepped next r m ≡ here
-    control o q h stays next i g =
-        let same : stepped next r m ≡ stepAs o = rw (stays, g) in
+    control o q h quiet next i g =
+        let stays : state r m ≡ recordEffect e bytes (state r m) = no-effect (ap familyOf i ∙ quiet) in
+        let same : stepped next r m ≡ stepAs o = cc in
         same ∙ by-op o (ap opOf i ∙ h)
 
     pub end-step : k ≡ 0x89 → stepped Ended r m ≡ here
-    unfolding opOf
+    unfolding opOf familyOf
     end-step h = control END 0x89 refl refl Ended h refl
 
     module _ (j : ℕ) (ej : j ≡ rowIn rows n .jump) where
       pub else-step : k ≡ 0x81 → stepped (At j) r m ≡ here
-      unfolding opOf
+      unfolding opOf familyOf
       else-step h = control ELSE 0x81 refl refl (At j) h (ap At ej)
 
       pub jump-step : 0x84 ≤ k → k < 0x87 → stepped (At j) r m ≡ here
-      unfolding opOf
+      unfolding opOf familyOf
       jump-step a b =
           ⊎-elim (λ h. control ENDLOOP 0x84 refl refl (At j) (sym h) (ap At ej))
           (λ a. ⊎-elim (λ h. control BRK 0x85 refl refl (At j) (sym h) (ap At ej))
@@ -92,16 +97,16 @@ module _ (e : Env) (file rows : List ℕ) (n : ℕ) (r m : List ℕ) where
       ex = rw eo
 
       pub uif-false : (j : ℕ) → k ≡ 0x90 → sourceWord o 0 0 ≡ 0 → j ≡ rowIn rows n .jump → stepped (At j) r m ≡ here
-      unfolding opOf
+      unfolding opOf familyOf
       uif-false j h z ej = control UIF 0x90 refl refl (At j) h (rw (← ex, z, ej))
 
       pub uif-true : k ≡ 0x90 → (sourceWord o 0 0 ≡ 0 → ⊥) → stepped (At (n + 1)) r m ≡ here
-      unfolding opOf
+      unfolding opOf familyOf
       uif-true h z = control UIF 0x90 refl refl (At (n + 1)) h (rw (← ex, ne-eqb (sourceWord o 0 0) 0 z, add-one n))
 
       switch-step : (immediates : List ℕ) (l j w : ℕ) → k ≡ 0x91 → l ≡ rowIn rows n .label → j ≡ rowIn rows n .jump
           → w ≡ walk (labelsOf immediates file (placeIn rows)) (rowIn rows) mostInstructions (sourceWord o 0 0) l j → e .immediates ≡ wordIn immediates → stepped (At w) r m ≡ here
-      unfolding opOf
+      unfolding opOf familyOf
       switch-step immediates l j w h el ej ew same =
           control SWITCH 0x91 refl refl (At w) h
           (ap At (ew ∙ (walk-labels e immediates same file (placeIn rows) (rowIn rows) mostInstructions (sourceWord o 0 0) l j ∙ rw (ex, el, ej))))
@@ -129,27 +134,26 @@ module _ (e : Env) (file rows : List ℕ) (n : ℕ) (r m : List ℕ) where
 
     falls : (lo hi : ℕ) → T (every quiet lo (hi - lo)) → lo ≤ k → k < hi → (k ≡ 0x81 → ⊥) → (k ≡ 0x89 → ⊥) → (k ≡ 0x90 → ⊥) → (k ≡ 0x91 → ⊥)
         → stepped (At (n + 1)) r m ≡ here
-    unfolding recordEffect
     falls lo hi q a b w x y z = each ∙ by-op (opOf k) refl
       where
         is-quiet : T (quiet k)
         is-quiet = in-range quiet lo hi k q a b
 
-        no-effect : state r m ≡ recordEffect e bytes (state r m)
-        no-effect = rw (← ek, same-family (familyOf k) NONE (and-left (eqb (kindIn (familyOf k)) (kindIn NONE)) (not (within 0x84 0x86 k)) is-quiet))
+        stays : state r m ≡ recordEffect e bytes (state r m)
+        stays = no-effect (same-family (familyOf k) NONE (and-left (eqb (kindIn (familyOf k)) (kindIn NONE)) (not (within 0x84 0x86 k)) is-quiet))
 
         no-jump : T (not (within 0x84 0x86 k))
         no-jump = and-right (eqb (kindIn (familyOf k)) (kindIn NONE)) (not (within 0x84 0x86 k)) is-quiet
 
-        on : stepped (At (n + 1)) r m ≡ stepped (At (suc n)) r m
-        on = cc next-is
+        on : stepped (At (n + 1)) r m ≡ record { next = At (suc n); state = recordEffect e bytes (state r m) }
+        on = cc (next-is, stays)
 
         each : stepped (At (n + 1)) r m ≡ stepAs (opOf k)
         each =
             op-cases (λ o. stepped (At (n + 1)) r m ≡ stepAs o) k
             (λ h. absurd (w h)) (λ h. on) (λ h. on) (λ h. absurd (rw h at no-jump)) (λ h. absurd (rw h at no-jump)) (λ h. absurd (rw h at no-jump))
             (λ h. on) (λ h. on) (λ h. absurd (x h)) (λ h. absurd (y h)) (λ h. absurd (z h)) (λ h. on)
-            (cc (on, no-effect))
+            on
 
     module _ (w : k ≡ 0x81 → ⊥) (x : k ≡ 0x89 → ⊥) (y : k ≡ 0x90 → ⊥) (z : k ≡ 0x91 → ⊥) where
       pub falls-below : k < 0x10 → stepped (At (n + 1)) r m ≡ here
