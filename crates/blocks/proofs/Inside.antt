@@ -1,4 +1,5 @@
--- A reading halts only before an instruction of the lists that it reads, so the next instruction of a halt is one of the program's.
+-- A reading stays inside its program: it halts only before an instruction of the lists that it reads, and what the effect of each
+-- of these instructions keeps true of the state is true of the state that it leaves.
 -- Assumes nothing.
 use mathlib.Core.Path.{_≡_, refl}
 use Prim.Native.Nat.{ℕ, zero, suc, _+_, _<_}
@@ -18,13 +19,13 @@ module _ (N : ℕ) where
   Below (loop n l rest) = (n < N) × Below l × Below rest
   Below (switch n l rest) = (n < N) × Below l × Below rest
 
-  -- A reading that halts does so before one of them.
-  abbrev pub HaltsBelow : {S : Type 0} → Reading S → Type 0
-  HaltsBelow (out c s) = Unit {0}
-  HaltsBelow (brk c s) = Unit {0}
-  HaltsBelow (cont c s) = Unit {0}
-  HaltsBelow (ended c s) = Unit {0}
-  HaltsBelow (halted n c s) = n < N
+  -- A reading that comes to a state as P says, and that halts before one of them where it halts.
+  abbrev pub Stays : {S : Type 0} → (S → Type 0) → Reading S → Type 0
+  Stays P (out c s) = P s
+  Stays P (brk c s) = P s
+  Stays P (cont c s) = P s
+  Stays P (ended c s) = P s
+  Stays P (halted n c s) = (n < N) × P s
 
   -- ---- The lists of a program
 
@@ -59,110 +60,118 @@ module _ (N : ℕ) where
 
   -- ---- Their reading
 
-  module _ {S : Type 0} where
-    next-below : (r : Reading S) → HaltsBelow r → (k : ℕ → S → Reading S) → ((c : ℕ) (s : S) → HaltsBelow (k c s)) → HaltsBelow (next r k)
-    next-below (out c s) h k f = f c s
-    next-below (brk c s) h k f = tt
-    next-below (cont c s) h k f = tt
-    next-below (ended c s) h k f = tt
-    next-below (halted n c s) h k f = h
+  module _ {S : Type 0} (P : S → Type 0) where
+    -- From every state as P says.
+    abbrev Staying : (ℕ → S → Reading S) → Type 0
+    Staying k = (c : ℕ) (s : S) → P s → Stays P (k c s)
 
-    leave-below : (r : Reading S) → HaltsBelow r → HaltsBelow (leave r)
-    leave-below (out c s) h = tt
-    leave-below (brk c s) h = tt
-    leave-below (cont c s) h = tt
-    leave-below (ended c s) h = tt
-    leave-below (halted n c s) h = h
+    next-stays : (r : Reading S) → Stays P r → (k : ℕ → S → Reading S) → Staying k → Stays P (next r k)
+    next-stays (out c s) h k f = f c s h
+    next-stays (brk c s) h k f = h
+    next-stays (cont c s) h k f = h
+    next-stays (ended c s) h k f = h
+    next-stays (halted n c s) h k f = h
 
-    round-below : (r : Reading S) → HaltsBelow r → (k : ℕ → S → Reading S) → ((c : ℕ) (s : S) → HaltsBelow (k c s)) → HaltsBelow (round r k)
-    round-below (out c s) h k f = f c s
-    round-below (brk c s) h k f = tt
-    round-below (cont c s) h k f = f c s
-    round-below (ended c s) h k f = tt
-    round-below (halted n c s) h k f = h
+    leave-stays : (r : Reading S) → Stays P r → Stays P (leave r)
+    leave-stays (out c s) h = h
+    leave-stays (brk c s) h = h
+    leave-stays (cont c s) h = h
+    leave-stays (ended c s) h = h
+    leave-stays (halted n c s) h = h
 
-  module _ {S : Type 0} (M : Machine S) (budget : ℕ) where
-    charged-below : (n : ℕ) → n < N → (k : ℕ → S → Reading S) → ((c : ℕ) (s : S) → HaltsBelow (k c s)) → (c : ℕ) (s : S) → HaltsBelow (charged M budget n k c s)
-    charged-below n h k f c s = on (eqb c budget)
-      where
-        on : (t : Bool) → HaltsBelow (cond {A = ℕ → S → Reading S} t (halted n) (λ c s. k (suc c) s) c s)
-        on true = h
-        on false = f (suc c) s
+    round-stays : (r : Reading S) → Stays P r → (k : ℕ → S → Reading S) → Staying k → Stays P (round r k)
+    round-stays (out c s) h k f = f c s h
+    round-stays (brk c s) h k f = h
+    round-stays (cont c s) h k f = f c s h
+    round-stays (ended c s) h k f = h
+    round-stays (halted n c s) h k f = h
 
-    single-below : (o : Op) (c : ℕ) (s : S) → HaltsBelow (single M budget o c s)
-    single-below PLAIN c s = tt
-    single-below BRK c s = tt
-    single-below CONT c s = tt
-    single-below END c s = tt
-    single-below ELSE c s = tt
-    single-below ENDIF c s = tt
-    single-below BGNLOOP c s = tt
-    single-below ENDLOOP c s = tt
-    single-below DEFAULT c s = tt
-    single-below ENDSWITCH c s = tt
-    single-below UIF c s = tt
-    single-below SWITCH c s = tt
-    single-below CASE c s = tt
+    chosen-stays : (t : Bool) (f g : ℕ → S → Reading S) → Staying f → Staying g → Staying (cond t f g)
+    chosen-stays true f g hf hg c s h = hf c s h
+    chosen-stays false f g hf hg c s h = hg c s h
 
-    chosen-below : (t : Bool) (f g : ℕ → S → Reading S) → ((c : ℕ) (s : S) → HaltsBelow (f c s)) → ((c : ℕ) (s : S) → HaltsBelow (g c s)) → (c : ℕ) (s : S) → HaltsBelow (cond t f g c s)
-    chosen-below true f g hf hg c s = hf c s
-    chosen-below false f g hf hg c s = hg c s
+    module _ (M : Machine S) (budget : ℕ) where
+      charged-stays : (n : ℕ) → n < N → (k : ℕ → S → Reading S) → Staying k → Staying (charged M budget n k)
+      charged-stays n h k f c s p = on (eqb c budget)
+        where
+          on : (t : Bool) → Stays P (cond {A = ℕ → S → Reading S} t (halted n) (λ c s. k (suc c) s) c s)
+          on true = (h, p)
+          on false = f (suc c) s p
 
-    -- Both a list and the part of it past a label.
-    module _ (again : Items → ℕ → S → Reading S) (ha : (l : Items) → Below l → (c : ℕ) (s : S) → HaltsBelow (again l c s)) where
-      abbrev reads : Items → ℕ → S → Reading S
-      reads l = read M budget l again
+      single-stays : (o : Op) → Staying (single M budget o)
+      single-stays PLAIN c s h = h
+      single-stays BRK c s h = h
+      single-stays CONT c s h = h
+      single-stays END c s h = h
+      single-stays ELSE c s h = h
+      single-stays ENDIF c s h = h
+      single-stays BGNLOOP c s h = h
+      single-stays ENDLOOP c s h = h
+      single-stays DEFAULT c s h = h
+      single-stays ENDSWITCH c s h = h
+      single-stays UIF c s h = h
+      single-stays SWITCH c s h = h
+      single-stays CASE c s h = h
 
-      -- A SWITCH's list from just past the label that its x comes to.
-      abbrev labelled : ℕ → Items → ℕ → S → Reading S
-      labelled n l c s = past M budget l again (caseOf M (M .test n s)) (λ c s. past M budget l again (defaultAt M) out c s) c (M .effect n s)
+      -- The effect of each of the instructions keeps P.
+      module _ (keeps : (n : ℕ) (s : S) → n < N → P s → P (M .effect n s)) where
+        -- Both a list and the part of it past a label.
+        module _ (again : Items → ℕ → S → Reading S) (ha : (l : Items) → Below l → Staying (again l)) where
+          abbrev reads : Items → ℕ → S → Reading S
+          reads l = read M budget l again
 
-      abbrev Fine : Items → Type 0
-      Fine l =
-          ((c : ℕ) (s : S) → HaltsBelow (read M budget l again c s))
-          × ((fits : ℕ → Bool) (other : ℕ → S → Reading S) → ((c : ℕ) (s : S) → HaltsBelow (other c s)) → (c : ℕ) (s : S) → HaltsBelow (past M budget l again fits other c s))
+          -- A SWITCH's list from just past the label that its x comes to.
+          abbrev labelled : ℕ → Items → ℕ → S → Reading S
+          labelled n l c s = past M budget l again (caseOf M (M .test n s)) (λ c s. past M budget l again (defaultAt M) out c s) c (M .effect n s)
 
-      read-below : (l : Items) → Below l → Fine l
-      unfolding read past
-      read-below nil h = ((λ c s. tt), (λ fits other ho c s. ho c s))
-      read-below (one n rest) h =
-          let f : Fine rest = read-below rest (h .1) in (
-            charged-below n (h .0) (λ c s. next (single M budget (opAt M n) c (M .effect n s)) (reads rest))
-                (λ c s. next-below (single M budget (opAt M n) c (M .effect n s)) (single-below (opAt M n) c (M .effect n s)) (reads rest) (f .0)),
-            (λ fits other ho c s. chosen-below (fits n) (λ c s. reads rest c s) (past M budget rest again fits other) (f .0) (f .1 fits other ho) c s),
-          )
-      read-below (uif n p q rest) h =
-          let fp : Fine p = read-below p (h .1) in
-          let fq : Fine q = read-below q (h .2) in
-          let f : Fine rest = read-below rest (h .3) in (
-            charged-below n (h .0) (λ c s. next (cond (eqb (M .test n s) 0) (reads q) (reads p) c (M .effect n s)) (reads rest))
-                (λ c s. next-below (cond (eqb (M .test n s) 0) (reads q) (reads p) c (M .effect n s))
-                (chosen-below (eqb (M .test n s) 0) (reads q) (reads p) (fq .0) (fp .0) c (M .effect n s)) (reads rest) (f .0)),
-            f .1,
-          )
-      read-below (loop n l rest) h =
-          let f : Fine rest = read-below rest (h .2) in (
-            charged-below n (h .0) (λ c s. next (again l c (M .effect n s)) (reads rest))
-                (λ c s. next-below (again l c (M .effect n s)) (ha l (h .1) c (M .effect n s)) (reads rest) (f .0)),
-            f .1,
-          )
-      read-below (switch n l rest) h =
-          let fl : Fine l = read-below l (h .1) in
-          let f : Fine rest = read-below rest (h .2) in (
-            charged-below n (h .0) (λ c s. next (leave (labelled n l c s)) (reads rest))
-                (λ c s. next-below (leave (labelled n l c s)) (leave-below (labelled n l c s)
-                (fl .1 (caseOf M (M .test n s)) (λ c s. past M budget l again (defaultAt M) out c s) (fl .1 (defaultAt M) out (λ c s. tt)) c (M .effect n s)))
-                (reads rest) (f .0)),
-            f .1,
-          )
+          abbrev Fine : Items → Type 0
+          Fine l =
+              Staying (read M budget l again)
+              × ((fits : ℕ → Bool) (other : ℕ → S → Reading S) → Staying other → Staying (past M budget l again fits other))
 
-    rounds-below : (f : ℕ) (l : Items) → Below l → (c : ℕ) (s : S) → HaltsBelow (rounds M budget f l c s)
-    unfolding rounds
-    rounds-below zero l h c s = tt
-    rounds-below (suc f) l h c s =
-        round-below (read M budget l (rounds M budget f) c s) (read-below (rounds M budget f) (rounds-below f) l h .0 c s)
-        (rounds M budget f l) (rounds-below f l h)
+          read-stays : (l : Items) → Below l → Fine l
+          unfolding read past
+          read-stays nil h = ((λ c s p. p), (λ fits other ho c s p. ho c s p))
+          read-stays (one n rest) h =
+              let f : Fine rest = read-stays rest (h .1) in (
+                charged-stays n (h .0) (λ c s. next (single M budget (opAt M n) c (M .effect n s)) (reads rest))
+                    (λ c s p. next-stays (single M budget (opAt M n) c (M .effect n s))
+                    (single-stays (opAt M n) c (M .effect n s) (keeps n s (h .0) p)) (reads rest) (f .0)),
+                (λ fits other ho c s p. chosen-stays (fits n) (λ c s. reads rest c s) (past M budget rest again fits other) (f .0) (f .1 fits other ho) c s p),
+              )
+          read-stays (uif n p q rest) h =
+              let fp : Fine p = read-stays p (h .1) in
+              let fq : Fine q = read-stays q (h .2) in
+              let f : Fine rest = read-stays rest (h .3) in (
+                charged-stays n (h .0) (λ c s. next (cond (eqb (M .test n s) 0) (reads q) (reads p) c (M .effect n s)) (reads rest))
+                    (λ c s i. next-stays (cond (eqb (M .test n s) 0) (reads q) (reads p) c (M .effect n s))
+                    (chosen-stays (eqb (M .test n s) 0) (reads q) (reads p) (fq .0) (fp .0) c (M .effect n s) (keeps n s (h .0) i)) (reads rest) (f .0)),
+                f .1,
+              )
+          read-stays (loop n l rest) h =
+              let f : Fine rest = read-stays rest (h .2) in (
+                charged-stays n (h .0) (λ c s. next (again l c (M .effect n s)) (reads rest))
+                    (λ c s p. next-stays (again l c (M .effect n s)) (ha l (h .1) c (M .effect n s) (keeps n s (h .0) p)) (reads rest) (f .0)),
+                f .1,
+              )
+          read-stays (switch n l rest) h =
+              let fl : Fine l = read-stays l (h .1) in
+              let f : Fine rest = read-stays rest (h .2) in (
+                charged-stays n (h .0) (λ c s. next (leave (labelled n l c s)) (reads rest))
+                    (λ c s p. next-stays (leave (labelled n l c s)) (leave-stays (labelled n l c s)
+                    (fl .1 (caseOf M (M .test n s)) (λ c s. past M budget l again (defaultAt M) out c s) (fl .1 (defaultAt M) out (λ c s p. p)) c (M .effect n s)
+                    (keeps n s (h .0) p)))
+                    (reads rest) (f .0)),
+                f .1,
+              )
 
-    pub halts-inside : (op : ℕ → Op) (s : S) → HaltsBelow (reading M budget (nestedLists op N) s)
-    unfolding reading
-    halts-inside op s = read-below (rounds M budget budget) (rounds-below budget) (nestedLists op N) (list-below op N 0) .0 0 s
+        rounds-stay : (f : ℕ) (l : Items) → Below l → Staying (rounds M budget f l)
+        unfolding rounds
+        rounds-stay zero l h c s p = p
+        rounds-stay (suc f) l h c s p =
+            round-stays (read M budget l (rounds M budget f) c s) (read-stays (rounds M budget f) (rounds-stay f) l h .0 c s p)
+            (rounds M budget f l) (rounds-stay f l h)
+
+        pub reading-stays : (op : ℕ → Op) (s : S) → P s → Stays P (reading M budget (nestedLists op N) s)
+        unfolding reading
+        reading-stays op s p = read-stays (rounds M budget budget) (rounds-stay budget) (nestedLists op N) (list-below op N 0) .0 0 s p

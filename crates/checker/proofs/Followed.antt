@@ -1,25 +1,29 @@
 -- What holds of an accepted program: its instructions, from where they begin on, are whole records that are well nested, and
--- there are at most 1,024 of them.
+-- there are at most 1,024 of them; their operands are as the field rules ask and name what is declared or given, and all that is
+-- declared lies within its file. What has been seen declared at an instruction is what is declared at the end: a declaration after
+-- an instruction is refused.
 -- Assumes nothing.
 use mathlib.Core.Path.{_≡_, refl, sym, ap, _∙_, subst}
 use mathlib.Core.Bool.{Bool, true, false, cond, not}
 use mathlib.Core.Logic.{⊎-elim}
-use mathlib.Core.List.{List, []}
-use Prim.Native.Nat.{ℕ, zero, suc, _+_, _-_, _<_, _≤_}
+use mathlib.Core.List.{List, [], _++_}
+use Prim.Native.Nat.{ℕ, zero, suc, _+_, _-_, _*_, _<_, _≤_}
 use native.Mathlib.Omega.{arith}
 use native.Mathlib.Numerals.{add-one}
 use native.Mathlib.Nat.{eq-or-lt-of-le}
 use lib.Dec.{eqb, leb, ltb}
-use lib.ListN.{length, getD}
-use borrow.Author.Tests.{lt-ltb, ltb-true, ltb-false, eqb-true, eqb-false}
+use lib.ListN.{length, getD, length-append}
+use borrow.Author.Tests.{lt-ltb, ltb-true, ltb-false, leb-false, eqb-true, eqb-false, not-false}
 use Rattle.format.specs.Records.{longest, sizeAt, placeFrom}
 use Rattle.format.specs.Fields.{declarationAt, caseWord}
 use Rattle.format.proofs.Walk.{place-step}
 use Rattle.blocks.specs.Control.{Op, END, is, opOf}
 use Rattle.blocks.specs.Nesting.{accepts}
-use Rattle.registers.specs.Rules.{declarationRule}
-use Rattle.registers.specs.Found.{overlaps}
-use Rattle.checker.specs.Findings.{Seen, nothing, Finding, taken, due, withDeclaration, declarationFinding, withImmediate, immediateFinding, withInstruction, recordFinding}
+use Rattle.registers.specs.Sets.{Registers, registersOf}
+use Rattle.registers.specs.Rules.{operandRules, declarationRule}
+use Rattle.registers.specs.Found.{overlaps, operandsFound}
+use Rattle.registers.proofs.Named.{Inside, none-inside, more-inside}
+use Rattle.checker.specs.Findings.{Seen, nothing, Finding, taken, due, immediateAt, withDeclaration, declarationFinding, withImmediate, immediateFinding, withInstruction, recordFinding}
 use Rattle.checker.specs.Check.{accepted, refused, onward, walk, checkOf}
 use Rattle.checker.proofs.Stack.{op-cases}
 use Rattle.checker.proofs.Walking.{due-not-taken, past-due, taken-whole, taken-declaration, taken-immediate, taken-instruction, Passed, passed}
@@ -45,6 +49,17 @@ pub record Instruction (file : List ℕ) (p : ℕ) : Type 0 where
   pub not-declaration : getD file p 0 ≡ 1 → ⊥
   pub not-immediate : getD file p 0 ≡ 2 → ⊥
 
+-- The operands of the instruction at a place keep the field rules, and name what is declared or one of the immediates.
+pub record Operands (file : List ℕ) (declared : Registers) (immediates : List ℕ) (p : ℕ) : Type 0 where
+  pub allowed : operandRules (getD file p 0) file p ≡ true
+  pub found : operandsFound (getD file p 0) declared (length immediates) file p ≡ true
+
+-- Words of at most 256 immediates, four each.
+record Fours (words : List ℕ) : Type 0 where
+  many : ℕ
+  most : many ≤ 256
+  four : length words ≡ 4 * many
+
 module _ (file : List ℕ) where
   -- Of instruction n, counted from a place on: which it is, and the word of a CASE.
   abbrev pub opFrom : ℕ → ℕ → Op
@@ -56,11 +71,13 @@ module _ (file : List ℕ) where
   -- From s, at an instruction, the walk comes to the accepted program f.
   record Body (s f : Seen) : Type 0 where
     start : f .start ≡ s .start
+    declared : f .declared ≡ s .declared
     immediates : f .immediates ≡ s .immediates
     more : s .instructions < f .instructions
     most : f .instructions ≤ 1024
     nested : accepts (opFrom (s .start)) (wordFrom (s .start) (s .immediates)) (f .instructions - s .instructions) (s .instructions) (s .blocks) ≡ true
     instruction : (n : ℕ) → s .instructions ≤ n → n < f .instructions → Instruction file (placeFrom file (s .start) n)
+    operands : (n : ℕ) → s .instructions ≤ n → n < f .instructions → Operands file (s .declared) (s .immediates) (placeFrom file (s .start) n)
 
   -- ---- One record of an accepted program
 
@@ -113,6 +130,11 @@ module _ (file : List ℕ) where
       here-too : (n : ℕ) → s .instructions ≡ n → Instruction file (placeFrom file (s .start) n)
       here-too n e = subst (λ (q : ℕ). Instruction file q) (place ∙ ap (placeFrom file (s .start)) e) here
 
+      found-too : (n : ℕ) → s .instructions ≡ n → Operands file (s .declared) (s .immediates) (placeFrom file (s .start) n)
+      found-too n e =
+          subst (λ (q : ℕ). Operands file (s .declared) (s .immediates) q) (place ∙ ap (placeFrom file (s .start)) e)
+          (record { allowed = p .allowed; found = p .found })
+
       last : eqb (getD file at 0) 0x89 ≡ true → f ≡ withInstruction s (p .blocks)
       last e = ends-by (ltb (at + 1) (length file)) (rw e at (t .rest)) ∙ p .after where
         ends-by : (b : Bool) → cond b (refused 2 (at + 1)) (accepted (t .after)) ≡ accepted f → f ≡ t .after
@@ -125,6 +147,7 @@ module _ (file : List ℕ) where
           let one : f .instructions - s .instructions ≡ suc 0 = omega arith in
           record {
             start = ap (λ (u : Seen). u .start) (last e);
+            declared = ap (λ (u : Seen). u .declared) (last e);
             immediates = ap (λ (u : Seen). u .immediates) (last e);
             more = omega arith;
             most = omega (arith, few);
@@ -132,6 +155,7 @@ module _ (file : List ℕ) where
                 subst (λ (m : ℕ). accepts (opFrom (s .start)) (wordFrom (s .start) (s .immediates)) m (s .instructions) (s .blocks) ≡ true) (sym one)
                 (nested-by 0 (rw e refl));
             instruction = λ n l h. here-too n (omega arith);
+            operands = λ n l h. found-too n (omega arith);
           }
       by false e =
           let b : Body (withInstruction s (p .blocks)) f = subst (λ (u : Seen). Body u f) (p .after) (rest (rw e at (t .rest))) in
@@ -139,6 +163,7 @@ module _ (file : List ℕ) where
           let left : f .instructions - s .instructions ≡ suc (f .instructions - (s .instructions + 1)) = omega arith in
           record {
             start = b .start;
+            declared = b .declared;
             immediates = b .immediates;
             more = omega arith;
             most = b .most;
@@ -148,6 +173,7 @@ module _ (file : List ℕ) where
                 (rw e (subst (λ (i : ℕ). accepts (opFrom (s .start)) (wordFrom (s .start) (s .immediates)) (f .instructions - (s .instructions + 1)) i (p .blocks) ≡ true)
                 (add-one (s .instructions)) (b .nested))));
             instruction = λ n l h. ⊎-elim (λ q. here-too n q) (λ g. b .instruction n (omega arith) h) (eq-or-lt-of-le l);
+            operands = λ n l h. ⊎-elim (λ q. found-too n q) (λ g. b .operands n (omega arith) h) (eq-or-lt-of-le l);
           }
 
   -- After an instruction there are no declarations and immediates.
@@ -176,12 +202,17 @@ module _ (file : List ℕ) where
     pub most : f .instructions ≤ 1024
     pub nested : accepts (opFrom (f .start)) (wordFrom (f .start) (f .immediates)) (f .instructions) 0 [] ≡ true
     pub instruction : (n : ℕ) → n < f .instructions → Instruction file (placeFrom file (f .start) n)
+    pub operands : (n : ℕ) → n < f .instructions → Operands file (f .declared) (f .immediates) (placeFrom file (f .start) n)
+    pub inside : Inside (f .declared)
+    pub given : length (f .immediates) ≤ 1024
 
-  -- Before the first instruction: it begins here, and no block is open.
+  -- Before the first instruction: it begins here, no block is open, and what is declared and given is within bounds.
   record Before (at : ℕ) (s : Seen) : Type 0 where
     start : s .start ≡ at
     instructions : s .instructions ≡ 0
     blocks : s .blocks ≡ []
+    inside : Inside (s .declared)
+    given : Fours (s .immediates)
 
   first : (at : ℕ) (s f : Seen) → Before at s → at < length file → Body s f → Followed f
   first at s f before h b =
@@ -192,6 +223,9 @@ module _ (file : List ℕ) where
         most = b .most;
         nested = rw (b .start, b .immediates) (rw (n, before .instructions, before .blocks) at (b .nested));
         instruction = λ i l. rw (b .start) (b .instruction i (omega arith) l);
+        operands = λ i l. rw (b .start, b .declared, b .immediates) (b .operands i (omega arith) l);
+        inside = rw (b .declared) (before .inside);
+        given = rw (b .immediates) (omega (arith, before .given .most, before .given .four));
       }
 
   declared-before : (at : ℕ) (s u : Seen) → Before at s → declarationFinding s file at ≡ taken u → Before (at + sizeAt file at) u
@@ -201,15 +235,34 @@ module _ (file : List ℕ) where
       let b = past-due (not (declarationRule (declarationAt file (at + 1)))) 7 _ u (a .1) in
       let c = past-due (overlaps (s .declared) (declarationAt file (at + 1))) 8 _ u (b .1) in
       subst (λ (v : Seen). Before (at + sizeAt file at) v) (same-taken _ u (c .1))
-      (record { start = refl; instructions = before .instructions; blocks = before .blocks })
+      (record {
+        start = refl;
+        instructions = before .instructions;
+        blocks = before .blocks;
+        inside = more-inside (s .declared) (declarationAt file (at + 1)) (before .inside) (not-false _ (b .0));
+        given = before .given;
+      })
 
   given-before : (at : ℕ) (s u : Seen) → Before at s → immediateFinding s file at ≡ taken u → Before (at + sizeAt file at) u
   unfolding immediateFinding withImmediate
   given-before at s u before e =
       let a = past-due (ltb 0 (s .instructions)) 5 _ u e in
       let b = past-due (leb 1024 (length (s .immediates))) 6 _ u (a .1) in
+      let room : length (s .immediates) < 1024 = leb-false 1024 (length (s .immediates)) (b .0) in
+      let four : length (s .immediates) ≡ 4 * before .given .many = before .given .four in
       subst (λ (v : Seen). Before (at + sizeAt file at) v) (same-taken _ u (b .1))
-      (record { start = refl; instructions = before .instructions; blocks = before .blocks })
+      (record {
+        start = refl;
+        instructions = before .instructions;
+        blocks = before .blocks;
+        inside = before .inside;
+        given =
+            record {
+              many = before .given .many + 1;
+              most = omega arith;
+              four = length-append (s .immediates) (immediateAt file (at + 1)) ∙ omega arith;
+            };
+      })
 
   -- A declaration or an immediate leads to the next record before the first instruction; an instruction is the first.
   header : (k at : ℕ) (s f : Seen) → Turned k at s f → Before at s
@@ -246,5 +299,14 @@ unfolding checkOf
 followed file f e = by (ltb longest (length file)) refl e where
   by : (b : Bool) → ltb longest (length file) ≡ b → cond b (refused 1 0) (walk (length file) file 0 nothing) ≡ accepted f → (length file ≤ longest) × Followed file f
   by true l r = not-accepted r
-  by false l r =
-      (ltb-false longest (length file) l, headed file (length file) 0 nothing f r (record { start = refl; instructions = refl; blocks = refl }))
+  by false l r = (
+    ltb-false longest (length file) l,
+    headed file (length file) 0 nothing f r
+        (record {
+          start = refl;
+          instructions = refl;
+          blocks = refl;
+          inside = none-inside;
+          given = record { many = 0; most = omega arith; four = refl };
+        }),
+  )

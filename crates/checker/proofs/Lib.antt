@@ -9,3 +9,4 @@ pub mod Taking
 pub mod Walking
 pub mod Followed
 pub mod Cases
+pub mod Accepted

@@ -7,7 +7,7 @@ use Prim.Native.Nat.{ℕ, zero, suc, _+_, _-_, _*_, _<_, _≤_}
 use native.Mathlib.Omega.{arith}
 use lib.Dec.{eqb, leb, ltb, eqb·suc-zero}
 use lib.ListN.{length, getD, take, replicate, take-append-drop}
-use borrow.Author.Tests.{lt-ltb, le-ltb, leb-false, eq-eqb, ne-eqb, eqb-true, eqb-false}
+use borrow.Author.Tests.{lt-ltb, le-ltb, leb-false, eq-eqb, ne-eqb, eqb-true, eqb-false, not-false}
 use Rattle.format.specs.Kinds.{lengthOf}
 use Rattle.format.specs.Records.{longest, sizeAt}
 use Rattle.format.specs.Fields.{caseWord}
@@ -57,9 +57,12 @@ module _ (s : Seen) (file : List ℕ) (at : ℕ) (u : Seen) (found : recordFindi
   pub taken-instruction : (getD file at 0 ≡ 1 → ⊥) → (getD file at 0 ≡ 2 → ⊥) → instructionFinding s file at ≡ taken u
   taken-instruction n1 n2 = rw (ne-eqb _ _ n1, ne-eqb _ _ n2) at (sized-chain .1)
 
--- An instruction that is taken: there were fewer than 1,024, and the rule lets it pass.
+-- An instruction that is taken: there were fewer than 1,024, its operands are as the field rules ask, what they name has been
+-- seen, and the rule of the blocks lets it pass.
 pub record Passed (s : Seen) (file : List ℕ) (at : ℕ) (u : Seen) : Type 0 where
   pub few : s .instructions < 1024
+  pub allowed : operandRules (getD file at 0) file at ≡ true
+  pub found : operandsFound (getD file at 0) (s .declared) (length (s .immediates)) file at ≡ true
   pub blocks : List Open
   pub rules : rule (opOf (getD file at 0)) (caseWord (s .immediates) file at) (s .blocks) ≡ goes blocks
   pub after : u ≡ withInstruction s blocks
@@ -75,7 +78,14 @@ passed s file at u e =
     let b = past-due (not (operandRules (getD file at 0) file at)) 7 _ u (a .1) in
     let c = past-due (not (operandsFound (getD file at 0) (s .declared) (length (s .immediates)) file at)) 9 _ u (b .1) in
     let d = passed-by s (rule (opOf (getD file at 0)) (caseWord (s .immediates) file at) (s .blocks)) u (c .1) in
-    record { few = leb-false 1024 (s .instructions) (a .0); blocks = d .0; rules = d .1; after = d .2 }
+    record {
+      few = leb-false 1024 (s .instructions) (a .0);
+      allowed = not-false _ (b .0);
+      found = not-false _ (c .0);
+      blocks = d .0;
+      rules = d .1;
+      after = d .2;
+    }
 
 end-rule : (x : ℕ) (σ τ : List Open) → rule (opOf 0x89) x σ ≡ goes τ → τ ≡ []
 unfolding opOf

@@ -2,3 +2,4 @@ pub mod Choices
 pub mod Bits
 pub mod Files
 pub mod Sources
+pub mod Named

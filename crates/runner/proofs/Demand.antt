@@ -17,7 +17,7 @@ use Rattle.blocks.specs.Reading.{halted, reading}
 use Rattle.blocks.specs.Run.{run, mostInstructions}
 use Rattle.blocks.specs.Table.{Row, row, rowAt, rowIn, placeIn, rowWords, table, wordsOf}
 use Rattle.blocks.proofs.Correct.{rows-count, run-is-reading}
-use Rattle.blocks.proofs.Inside.{HaltsBelow, halts-inside}
+use Rattle.blocks.proofs.Inside.{Stays, reading-stays}
 use Rattle.blocks.proofs.Sim.{Alike}
 use Rattle.blocks.proofs.Words.{length-words, words-place, words-row}
 use Rattle.checker.specs.Findings.{Seen}
@@ -98,7 +98,7 @@ module _ (s : Seen) (file : List ℕ)
             → run byWords (rowIn (preparedIn s file work)) c 0 0 st ≡ halted n c s′
             → n < mostInstructions
         stays-inside st c n s′ there =
-            let below : HaltsBelow (s .instructions) (halted n c s′) =
-            subst (HaltsBelow (s .instructions)) (sym (run-reads c st) ∙ there)
-            (halts-inside (s .instructions) byFile c (opFrom file (s .start)) st) in
-            omega arith
+            let below : Stays (s .instructions) (λ t. Unit {0}) (halted n c s′) =
+            subst (Stays (s .instructions) (λ t. Unit {0})) (sym (run-reads c st) ∙ there)
+            (reading-stays (s .instructions) (λ t. Unit {0}) byFile c (λ m t h u. tt) (opFrom file (s .start)) st tt) in
+            omega (arith, below .0)
