@@ -4,7 +4,7 @@ use Prim.Native.Nat.{ℕ}
 use mathlib.Core.Path.{_≡_, ap}
 use mathlib.Core.List.{List}
 use Rattle.format.specs.declared.records.Bounds.{Bounds}
-use Rattle.runner.specs.Answers.{Result, Preparation, after, prepareAfter}
+use Rattle.runner.specs.Answers.{Lent, Result, Preparation, after, prepareAfter}
 use Rattle.runner.specs.Answers.{Answer as Library}
 use Rattle.capi.specs.declared.Answer.{Answer}
 use Rattle.capi.specs.Answers.{answerOf, afterPreparing, preparationInWords, afterRun, resultInWords, partOf}
@@ -24,9 +24,8 @@ pub prepared-is :
 prepared-is a r work x h e = rw h (ap preparationInWords e)
 
 pub ran-is :
-    (a : Library) (r : Answer) (registers work memory : List ℕ) (x : Result) → r ≡ answerOf a
-    → after a registers work memory ≡ x → afterRun r registers work memory ≡ resultInWords x
-ran-is a r registers work memory x h e = rw h (ap resultInWords e)
+    (a : Library) (r : Answer) (words : Lent) (x : Result) → r ≡ answerOf a → after a words ≡ x → afterRun r words ≡ resultInWords x
+ran-is a r words x h e = rw h (ap resultInWords e)
 
 pub part-is : (b x : Bounds) → b ≡ x → partOf b ≡ partOf x
 part-is b x e = ap partOf e

@@ -15,8 +15,8 @@ words status first second = record { status = status; first = first; second = se
 -- Status 0 is done, 1 halted, 2 refused. A word that a status does not use is 0.
 abbrev pub answerOf : Library → Answer
 answerOf (ready instructions) = words 0 instructions 0
-answerOf (end steps) = words 0 steps 0
-answerOf (halt steps next) = words 1 steps next
+answerOf (end report) = words 0 (report .steps) 0
+answerOf (halt report next) = words 1 (report .steps) next
 answerOf (refusal number place) = words 2 number place
 
 -- A check answers as preparing does, which has one refusal more.
@@ -40,9 +40,8 @@ pub record Ran : Type 0 where
   pub answer : Answer
   pub lent : Lent
 
-abbrev pub afterRun : Answer → List ℕ → List ℕ → List ℕ → Ran
-afterRun answer registers work memory =
-    record { answer = answer; lent = record { registers = registers; work = work; memory = memory } }
+abbrev pub afterRun : Answer → Lent → Ran
+afterRun answer words = record { answer = answer; lent = words }
 
 abbrev pub resultInWords : Result → Ran
 resultInWords x = record { answer = answerOf (x .answer); lent = x .lent }

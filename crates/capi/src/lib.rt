@@ -6,7 +6,7 @@ use runner::Verdict;
 ghost use mathlib.Core.Path.{_≡_};
 ghost use Rattle.format.specs.Records.{boundsOf};
 ghost use Rattle.checker.specs.Check.{checkOf, told, toldOf};
-ghost use Rattle.runner.specs.Answers.{prepareAnswer, runAnswer};
+ghost use Rattle.runner.specs.Answers.{prepareAnswer, runAnswer, lent};
 ghost use Rattle.runner.specs.Whole.{runOf, prepareOf};
 ghost use Rattle.capi.specs.Answers.{words, answerOf, checkAnswer, afterPreparing, afterRun, preparationInWords, resultInWords, partOf};
 
@@ -75,10 +75,10 @@ fn ran(outcome: Outcome) -> Answer
     ensures { λ r. ⌜ r ≡ answerOf (runAnswer outcome) ⌝ }
 {
     match outcome {
-        Outcome::Ended(steps) => done(steps),
-        Outcome::Halted(steps, next) => Answer {
+        Outcome::Ended(report) => done(report.steps),
+        Outcome::Halted(report, next) => Answer {
             status: HALTED,
-            first: steps,
+            first: report.steps,
             second: next,
         },
         Outcome::Refused(number, place) => refused(number, place),
@@ -112,7 +112,7 @@ pub extern "C" fn ropebonnet_run(
     memory: &mut [u32],
     budget: u32,
 ) -> Answer
-    ensures { λ r. ⌜ afterRun r (now (registers .exit)) (now (work .exit)) (now (memory .exit)) ≡ resultInWords (runOf (now (file .entry)) (now (inputs .entry)) (now (constants .entry)) (now (registers .entry)) (now (work .entry)) (now (memory .entry)) budget) ⌝ }
+    ensures { λ r. ⌜ afterRun r (lent (now (registers .exit)) (now (work .exit)) (now (memory .exit))) ≡ resultInWords (runOf (now (file .entry)) (now (inputs .entry)) (now (constants .entry)) (lent (now (registers .entry)) (now (work .entry)) (now (memory .entry))) budget) ⌝ }
 {
     ran(runner::run(file, inputs, constants, registers, work, memory, budget))
 }

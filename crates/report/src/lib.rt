@@ -23,13 +23,13 @@ pub fn next_number(n: u64) {
 // `ended STEPS`, `halted STEPS NEXT` or `refused NUMBER PLACE`, and the line's end.
 pub fn outcome_line(outcome: Outcome) {
     match outcome {
-        Outcome::Ended(steps) => {
+        Outcome::Ended(told) => {
             text(b"ended");
-            next_number(steps as u64);
+            next_number(told.steps as u64);
         }
-        Outcome::Halted(steps, next) => {
+        Outcome::Halted(told, next) => {
             text(b"halted");
-            next_number(steps as u64);
+            next_number(told.steps as u64);
             next_number(next as u64);
         }
         Outcome::Refused(number, place) => {

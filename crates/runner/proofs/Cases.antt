@@ -22,8 +22,10 @@ use Rattle.effects.specs.Arithmetic.{unary, binary, ternary, resultWord, result
 use Rattle.effects.specs.Effect.{familyOf}
 use Rattle.machine.specs.Operands.{fourAt, registerWords, registerOf, taken, sourceOf, firstSource, readAt, nthSource, sourcesOf}
 use Rattle.machine.specs.Step.{recordEffect}
-use Rattle.runner.specs.Answers.{Answer, refusal, ready, end, halt, Result}
-use Rattle.runner.specs.Whole.{lentRefusal, cleared, carriedOut, runAccepted, runOf}
+use Rattle.admission.specs.Admission.{lentRefusal, admissionOf}
+use Rattle.execution.specs.Program.{cleared, carriedOut}
+use Rattle.runner.specs.Answers.{Answer, refusal, ready, end, halt, lent, Result}
+use Rattle.runner.specs.Whole.{runAdmitted, runOf}
 
 -- `01 03 00 00 00 00`, `02 19` and fifteen `00`, `10 03 00 00 01 06 00 00 E4 00`, `89`
 file12 : List ℕ
@@ -39,12 +41,12 @@ file13 =
 
 -- A run over 1,156 registers of 7, words enough for the table, and no memory.
 ran : List ℕ → ℕ → Result
-ran file budget = runOf file [] [] (replicate 1156 7) (replicate 24 9) [] budget
+ran file budget = runOf file [] [] (lent (replicate 1156 7) (replicate 24 9) []) budget
 
 -- An answer in numbers: which it is (0 ended, 1 halted, 2 refused, 3 prepared), and its values.
 numbers : Answer → List ℕ
-numbers (end steps) = 0 ∷ steps ∷ []
-numbers (halt steps next) = 1 ∷ steps ∷ next ∷ []
+numbers (end report) = 0 ∷ report .steps ∷ []
+numbers (halt report next) = 1 ∷ report .steps ∷ next ∷ []
 numbers (refusal number place) = 2 ∷ number ∷ place ∷ []
 numbers (ready instructions) = 3 ∷ instructions ∷ []
 
@@ -97,5 +99,5 @@ cases : instructions ++ runs
     ∷ (1 ∷ 0 ∷ 0 ∷ 0 ∷ 0 ∷ [])
     ∷ (0 ∷ 5 ∷ 0 ∷ 0 ∷ [])
     ∷ []
-unfolding instructions file12 file13 ran numbers shown runs lengthOf word16 word32 destinationAt sourceAt declarationAt caseWord sizeAt next placeFrom opOf listFrom tableWords read past rounds reading firstLabel rows table wordsOf walk checkOf withDeclaration declarationFinding withImmediate immediateFinding sourceFound operandsFound withInstruction instructionFinding recordFinding destinationRule sourceRule allOperands declarationRule components fourAt registerWords registerOf taken sourceOf ifMasked masked firstWord writtenAt unary resultWord resultWords firstSource readAt nthSource sourcesOf familyOf recordEffect lentRefusal cleared carriedOut runAccepted runOf binary ternary wide halves countOr wideOf signed word lsb umsb imsb least greatest outside ubfe ibfe bfi
+unfolding instructions file12 file13 ran numbers shown runs lengthOf word16 word32 destinationAt sourceAt declarationAt caseWord sizeAt next placeFrom opOf listFrom tableWords read past rounds reading firstLabel rows table wordsOf walk checkOf withDeclaration declarationFinding withImmediate immediateFinding sourceFound operandsFound withInstruction instructionFinding recordFinding destinationRule sourceRule allOperands declarationRule components fourAt registerWords registerOf taken sourceOf ifMasked masked firstWord writtenAt unary resultWord resultWords firstSource readAt nthSource sourcesOf familyOf recordEffect lentRefusal admissionOf cleared carriedOut runAdmitted runOf binary ternary wide halves countOr wideOf signed word lsb umsb imsb least greatest outside ubfe ibfe bfi
 cases = refl

@@ -1,42 +1,24 @@
 -- The whole run, and preparing alone: the refusals, and then what the block reading gives (document 01, demands 1 to 3).
 -- Assumes nothing.
 use Prim.Native.Nat.{ℕ, _*_}
-use mathlib.Core.Bool.{Bool, cond, _&&_, _||_}
-use mathlib.Core.List.{List, _++_}
-use lib.Dec.{eqb, ltb}
-use lib.ListN.{length, drop, replicate}
+use mathlib.Core.Path.{_≡_}
+use mathlib.Core.Bool.{cond}
+use mathlib.Core.List.{List, []}
+use lib.ListN.{length, take}
 use lib.Seq.{sets}
-use Rattle.format.specs.Records.{placeFrom}
-use Rattle.blocks.specs.Control.{Machine}
-use Rattle.blocks.specs.Lists.{Items, nestedLists}
-use Rattle.blocks.specs.Reading.{Reading, out, brk, cont, ended, halted, reading}
-use Rattle.blocks.specs.Prepared.{opFrom, tableWords}
-use Rattle.blocks.specs.Table.{rowWords}
+use Rattle.blocks.specs.Reading.{Reading, out, brk, cont, ended, halted}
+use Rattle.blocks.specs.Prepared.{tableWords}
+use Rattle.checker.specs.declared.program.Program.{Program}
 use Rattle.checker.specs.Findings.{Seen}
-use Rattle.checker.specs.Check.{Outcome, accepted, refused, checkOf}
+use Rattle.checker.specs.Check.{Outcome, accepted, refused, checkOf, programSeen}
 use Rattle.effects.specs.Destinations.{State}
-use Rattle.machine.specs.Operands.{Env, envWith}
-use Rattle.machine.specs.Step.{machineOf}
-use Rattle.runner.specs.Answers.{refusal, ready, end, halt, Result, after, Preparation, prepareAfter}
-
--- ---- The program: its nested lists, and what its instructions do
-
--- Instruction n of an accepted program stands where the walk from the first instruction comes to after n records.
-abbrev pub placeOf : Seen → List ℕ → ℕ → ℕ
-placeOf s file = placeFrom file (s .start)
-
-abbrev pub listsOf : Seen → List ℕ → Items
-listsOf s file = nestedLists (opFrom file (s .start)) (s .instructions)
-
--- "Indirect only for CONST and TEMP" (01, Register files): of these two files alone an operand asks what is declared.
-abbrev pub askedIndirectly : (ℕ → ℕ → Bool) → ℕ → ℕ → Bool
-askedIndirectly declared f i = (eqb f 1 || eqb f 4) && declared f i
-
-abbrev pub envOf : Seen → List ℕ → List ℕ → Env
-envOf s inputs constants = envWith (askedIndirectly (s .declared)) (s .immediates) inputs constants
-
-abbrev pub programOf : Seen → List ℕ → List ℕ → List ℕ → Machine State
-programOf s file inputs constants = machineOf (envOf s inputs constants) file (placeOf s file)
+use Rattle.effects.specs.Effect.{state}
+use Rattle.machine.specs.Operands.{wordIn}
+use Rattle.admission.specs.declared.Sizes.{Sizes}
+use Rattle.admission.specs.Admission.{workShort, admissionOf}
+use Rattle.execution.specs.Program.{cleared, carriedOut}
+use Rattle.execution.specs.Steps.{report}
+use Rattle.runner.specs.Answers.{refusal, ready, end, halt, Lent, lent, Result, after, Preparation, prepareAfter}
 
 -- ---- Preparing
 
@@ -44,14 +26,10 @@ programOf s file inputs constants = machineOf (envOf s inputs constants) file (p
 abbrev pub preparedIn : Seen → List ℕ → List ℕ → List ℕ
 preparedIn s file work = sets work 0 (tableWords file (s .start) (s .instructions))
 
--- "working words under 3 per instruction"
-abbrev pub workShort : Seen → List ℕ → Bool
-workShort s work = ltb (length work) (rowWords * s .instructions)
-
 abbrev pub prepareAccepted : Outcome → List ℕ → List ℕ → Preparation
 prepareAccepted (refused number place) file work = prepareAfter (refusal number place) work
 prepareAccepted (accepted s) file work =
-    cond (workShort s work) (prepareAfter (refusal 23 0) work)
+    cond (workShort s (length work)) (prepareAfter (refusal 23 0) work)
     (prepareAfter (ready (s .instructions)) (preparedIn s file work))
 
 -- "preparing alone: 23 only"
@@ -60,45 +38,41 @@ prepareOf file work = prepareAccepted (checkOf file) file work
 
 -- ---- The run
 
--- "20-24: run only .., after all above, in order, place 0: inputs, constants shorter than 4·(highest declared+1) words, 0 if none
--- is declared; registers under 1,156; working words under 3 per instruction; memory over 16,384 words" (01, Refusals by number)
--- The number, 0 where none is due.
-unfoldable pub lentRefusal : Seen → List ℕ → List ℕ → List ℕ → List ℕ → List ℕ → ℕ
-lentRefusal s inputs constants registers work memory =
-    cond (ltb (length inputs) (4 * s .inputs)) 20
-    (cond (ltb (length constants) (4 * s .constants)) 21
-    (cond (ltb (length registers) 1156) 22
-    (cond (workShort s work) 23
-    (cond (ltb 16384 (length memory)) 24 0))))
+-- How many words are lent of each.
+abbrev pub sizesOf : List ℕ → List ℕ → Lent → Sizes
+sizesOf inputs constants words =
+    record {
+      inputs = length inputs;
+      constants = length constants;
+      registers = length (words .registers);
+      work = length (words .work);
+      memory = length (words .memory);
+    }
+
+-- What a reading comes to. That of an accepted program ends or halts (`reading-final`): its outermost list has END last, and BRK
+-- and CONT stand in a block.
+abbrev pub reported : List ℕ → Reading State → Result
+reported work (ended steps s) = after (end (report steps)) (lent (s .registers) work (s .memory))
+reported work (halted next steps s) = after (halt (report steps) next) (lent (s .registers) work (s .memory))
+reported work (out steps s) = after (end (report steps)) (lent (s .registers) work (s .memory))
+reported work (brk steps s) = after (end (report steps)) (lent (s .registers) work (s .memory))
+reported work (cont steps s) = after (end (report steps)) (lent (s .registers) work (s .memory))
 
 -- "A run checks, prepares, clears these and no word past them, then carries out." (01, Register files)
-unfoldable pub cleared : List ℕ → List ℕ
-cleared registers = replicate 1156 0 ++ drop 1156 registers
+unfoldable pub runAdmitted : Outcome → List ℕ → List ℕ → List ℕ → Lent → ℕ → Result
+runAdmitted (refused number place) file inputs constants words budget = after (refusal number place) words
+runAdmitted (accepted s) file inputs constants words budget =
+    reported (preparedIn s file (words .work))
+    (carriedOut s file inputs constants budget (state (cleared (words .registers)) (words .memory)))
 
--- What a reading comes to. That of an accepted program ends or halts: its outermost list has END last, and BRK and CONT stand in
--- a block.
-abbrev pub reported : List ℕ → Reading State → Result
-reported work (ended steps s) = after (end steps) (s .registers) work (s .memory)
-reported work (halted next steps s) = after (halt steps next) (s .registers) work (s .memory)
-reported work (out steps s) = after (end steps) (s .registers) work (s .memory)
-reported work (brk steps s) = after (end steps) (s .registers) work (s .memory)
-reported work (cont steps s) = after (end steps) (s .registers) work (s .memory)
+-- The run of a file over lent inputs and constants and lent words, with a budget.
+unfoldable pub runOf : List ℕ → List ℕ → List ℕ → Lent → ℕ → Result
+runOf file inputs constants words budget =
+    runAdmitted (admissionOf file (sizesOf inputs constants words)) file inputs constants words budget
 
-unfoldable pub carriedOut : Seen → List ℕ → List ℕ → List ℕ → List ℕ → List ℕ → List ℕ → ℕ → Result
-carriedOut s file inputs constants registers work memory budget =
-    reported (preparedIn s file work)
-    (reading (programOf s file inputs constants) budget (listsOf s file)
-    (record { registers = cleared registers; memory = memory }))
+-- ---- What the run's parts ask
 
-unfoldable pub runAccepted : Outcome → List ℕ → List ℕ → List ℕ → List ℕ → List ℕ → List ℕ → ℕ → Result
-runAccepted (refused number place) file inputs constants registers work memory budget =
-    after (refusal number place) registers work memory
-runAccepted (accepted s) file inputs constants registers work memory budget =
-    cond (eqb (lentRefusal s inputs constants registers work memory) 0)
-    (carriedOut s file inputs constants registers work memory budget)
-    (after (refusal (lentRefusal s inputs constants registers work memory) 0) registers work memory)
-
--- The run of a file over lent inputs, constants, registers, working words and memory, with a budget.
-unfoldable pub runOf : List ℕ → List ℕ → List ℕ → List ℕ → List ℕ → List ℕ → ℕ → Result
-runOf file inputs constants registers work memory budget =
-    runAccepted (checkOf file) file inputs constants registers work memory budget
+-- The program p, whose immediates are the first of these words and 0 follows them, is admitted over what is lent.
+pub record Admits (p : Program) (immediates file inputs constants : List ℕ) (words : Lent) : Type 0 where
+  pub is : admissionOf file (sizesOf inputs constants words) ≡ accepted (programSeen p immediates [])
+  pub padded : wordIn immediates ≡ wordIn (take (4 * p .immediates) immediates)

@@ -1,20 +1,21 @@
 // Runs of program files: check, prepare, clear, carry out. Nobody has to check first, and nothing is asked of what is lent.
+use admission::Sizes;
+use admission::admit;
 use blocks::table::ROW_WORDS;
 use blocks::table::fill;
 use checker::examine;
 use checker::program::Program;
-use machine::bank::gather;
+use execution::Stop;
+use execution::lent::bank_of;
+use execution::steps::run_rows;
 ghost use mathlib.Core.Path.{_≡_};
 ghost use Prim.Native.Nat.{_≤_};
 ghost use Rattle.blocks.specs.Prepared.{filled};
-ghost use Rattle.runner.specs.Answers.{prepareAnswer, prepareAfter, runAnswer, after, stepsOf};
-ghost use Rattle.runner.specs.Whole.{prepareOf, runOf};
-
-mod lent;
-mod steps;
-
+ghost use Rattle.runner.specs.Answers.{prepareAnswer, prepareAfter, runAnswer, stopAnswer, lent, after, stepsOf};
+ghost use Rattle.runner.specs.Whole.{prepareOf, runOf, Admits};
 pub use checker::Verdict;
 pub use checker::check;
+pub use execution::Report;
 pub use format::records::record;
 pub use format::records::record_bounds;
 
@@ -28,10 +29,10 @@ pub enum Prepared {
 
 // What a run answers.
 pub enum Outcome {
-    // END was carried out; the steps.
-    Ended(u32),
-    // The budget was spent; the steps, and the next instruction's number.
-    Halted(u32, u32),
+    // END was carried out.
+    Ended(Report),
+    // The budget was spent; the next instruction's number.
+    Halted(Report, u32),
     // The number of the refusal, and the byte place.
     Refused(u8, u32),
 }
@@ -68,6 +69,37 @@ pub fn prepare(file: &[u8], work: &mut [u32]) -> Prepared
     }
 }
 
+// How a program that was carried out is answered for.
+fn answered(stop: Stop) -> Outcome
+    ensures { λ r. ⌜ runAnswer r ≡ stopAnswer stop ⌝ }
+{
+    match stop {
+        Stop::Ended(report) => Outcome::Ended(report),
+        Stop::Halted(report, next) => Outcome::Halted(report, next),
+    }
+}
+
+// Prepares an admitted program, clears the registers and carries it out.
+fn run_admitted(
+    file: &[u8],
+    program: Program,
+    immediates: &[u32; 1024],
+    inputs: &[u32],
+    constants: &[u32],
+    registers: &mut [u32],
+    work: &mut [u32],
+    memory: &mut [u32],
+    budget: u32,
+) -> Outcome
+    requires { ⌜ Admits program (now immediates) (now file) (now inputs) (now constants) (lent (now registers) (now work) (now memory)) ⌝ }
+    ensures { λ r. ⌜ after (runAnswer r) (lent (now (registers .exit)) (now (work .exit)) (now (memory .exit))) ≡ runOf (now (file .entry)) (now (inputs .entry)) (now (constants .entry)) (lent (now (registers .entry)) (now (work .entry)) (now (memory .entry))) budget ⌝ }
+{
+    let declared = program.declared;
+    let bank = bank_of(declared, immediates, inputs, constants);
+    write_table(file, program, work);
+    answered(run_rows(file, work, &bank, registers, memory, budget))
+}
+
 // Checks a file, prepares it, clears the registers and carries out its instructions until END or until the budget is spent.
 pub fn run(
     file: &[u8],
@@ -78,25 +110,32 @@ pub fn run(
     memory: &mut [u32],
     budget: u32,
 ) -> Outcome
-    ensures whole { λ r. ⌜ after (runAnswer r) (now (registers .exit)) (now (work .exit)) (now (memory .exit)) ≡ runOf (now (file .entry)) (now (inputs .entry)) (now (constants .entry)) (now (registers .entry)) (now (work .entry)) (now (memory .entry)) budget ⌝ }
+    ensures whole { λ r. ⌜ after (runAnswer r) (lent (now (registers .exit)) (now (work .exit)) (now (memory .exit))) ≡ runOf (now (file .entry)) (now (inputs .entry)) (now (constants .entry)) (lent (now (registers .entry)) (now (work .entry)) (now (memory .entry))) budget ⌝ }
     ensures within { λ r. ⌜ stepsOf (runAnswer r) ≤ budget ⌝ }
 {
     let mut immediates = [0u32; 1024];
-    let checked = examine(file, &mut immediates);
-    let program = checked.program;
-    let verdict = checked.verdict;
+    let sizes = Sizes {
+        inputs: inputs.len(),
+        constants: constants.len(),
+        registers: registers.len(),
+        work: work.len(),
+        memory: memory.len(),
+    };
+    let admitted = admit(file, sizes, &mut immediates);
+    let verdict = admitted.verdict;
+    let program = admitted.program;
     match verdict {
         Verdict::Refused(number, place) => Outcome::Refused(number, place),
-        Verdict::Accepted(_) => {
-            let number = lent::refusal(program, inputs, constants, registers, work, memory);
-            if number != 0 {
-                return Outcome::Refused(number, 0);
-            }
-            let declared = program.declared;
-            let bits = lent::declared_words(declared);
-            let bank = gather(&bits, &immediates, inputs, constants);
-            write_table(file, program, work);
-            steps::run_rows(file, work, &bank, registers, memory, budget)
-        }
+        Verdict::Accepted(_) => run_admitted(
+            file,
+            program,
+            &immediates,
+            inputs,
+            constants,
+            registers,
+            work,
+            memory,
+            budget,
+        ),
     }
 }

@@ -1,0 +1,82 @@
+-- What is admitted is what the check accepts where nothing is due for what is lent; and what an admitted program says of its sizes.
+-- Assumes nothing.
+use mathlib.Core.Path.{_≡_, refl, sym, ap, _∙_}
+use mathlib.Core.Bool.{Bool, true, false, cond}
+use mathlib.Core.List.{List, []}
+use Prim.Native.Nat.{ℕ, _*_, _≤_}
+use native.Mathlib.Omega.{arith}
+use borrow.Author.Tests.{eq-eqb, ne-eqb, eqb-true, ltb-false}
+use lib.Dec.{eqb, ltb}
+use Rattle.blocks.specs.Table.{rowWords}
+use Rattle.checker.specs.declared.Checked.{Checked}
+use Rattle.checker.specs.declared.Verdict.the-variants.{Accepted, Refused}
+use Rattle.checker.specs.Check.{Outcome, accepted, refused, checkOf, programSeen, outcome, concluded}
+use Rattle.checker.specs.Findings.{Seen}
+use Rattle.admission.specs.declared.Sizes.{Sizes}
+use Rattle.admission.specs.Admission.{workShort, lentRefusal, admitted, admissionOf}
+
+-- ---- What the function answers
+
+module _ (file words : List ℕ) (c : Checked) (lent : Sizes) (said : outcome c words ≡ checkOf file) where
+  abbrev seen : Seen
+  seen = programSeen (c .program) words []
+
+  pub check-refuses : (number place : ℕ) → c .verdict ≡ Refused number place → outcome c words ≡ admissionOf file lent
+  unfolding admissionOf
+  check-refuses number place e =
+      let r : checkOf file ≡ refused number place = sym said ∙ ap (λ v. concluded v seen) e in
+      rw (r, e)
+
+  module _ (n : ℕ) (e : c .verdict ≡ Accepted n) (due : ℕ) (due-is : due ≡ lentRefusal (programSeen (c .program) [] []) lent) where
+    is-accepted : checkOf file ≡ accepted seen
+    is-accepted = sym said ∙ ap (λ v. concluded v seen) e
+
+    pub lent-refuses : (due ≡ 0 → ⊥) → outcome (record { verdict = Refused due 0; program = c .program }) words ≡ admissionOf file lent
+    unfolding admissionOf lentRefusal
+    lent-refuses h = rw (is-accepted, ← due-is, ne-eqb due 0 h)
+
+    pub admits : due ≡ 0 → outcome c words ≡ admissionOf file lent
+    unfolding admissionOf lentRefusal
+    admits h = rw (is-accepted, e, ← due-is, h)
+
+-- ---- What an admitted program says
+
+pub not-accepted : {A : Type 0} {n p : ℕ} {s : Seen} → refused n p ≡ accepted s → A
+not-accepted e = let z : _≡_ {A = ℕ} 0 1 = cc in absurd (omega arith)
+
+pub record Admitted (s : Seen) (file : List ℕ) (lent : Sizes) : Type 0 where
+  pub follows : checkOf file ≡ accepted s
+  pub none-due : lentRefusal s lent ≡ 0
+
+-- The check accepts it, and nothing is due.
+pub admitted-is : (file : List ℕ) (lent : Sizes) (s : Seen) → admissionOf file lent ≡ accepted s → Admitted s file lent
+unfolding admissionOf
+admitted-is file lent s e = by (checkOf file) refl e
+  where
+    same : (t : Seen) → checkOf file ≡ accepted t → (b : Bool) → eqb (lentRefusal t lent) 0 ≡ b → cond b (accepted t) (refused (lentRefusal t lent) 0) ≡ accepted s → Admitted s file lent
+    same t q true z r =
+        let u : t ≡ s = cc in
+        rw (← u) (record { follows = q; none-due = eqb-true (lentRefusal t lent) 0 z })
+    same t q false z r = not-accepted r
+
+    by : (o : Outcome) → checkOf file ≡ o → admitted o lent ≡ accepted s → Admitted s file lent
+    by (refused number place) q r = not-accepted r
+    by (accepted t) q r = same t q (eqb (lentRefusal t lent) 0) refl r
+
+passed : (t₀ t₁ t₂ t₃ t₄ : Bool)
+    → _≡_ {A = ℕ} (cond t₀ 20 (cond t₁ 21 (cond t₂ 22 (cond t₃ 23 (cond t₄ 24 0))))) 0
+    → (t₂ ≡ false) × (t₃ ≡ false)
+passed true t₁ t₂ t₃ t₄ e = absurd (omega arith)
+passed false true t₂ t₃ t₄ e = absurd (omega arith)
+passed false false true t₃ t₄ e = absurd (omega arith)
+passed false false false true t₄ e = absurd (omega arith)
+passed false false false false t₄ e = (refl, refl)
+
+-- Where no refusal is due, there are registers and working words enough.
+pub lent-enough : (s : Seen) (lent : Sizes) → lentRefusal s lent ≡ 0 → (1156 ≤ lent .registers) × (rowWords * s .instructions ≤ lent .work)
+unfolding lentRefusal
+lent-enough s lent e =
+    let p =
+    passed (ltb (lent .inputs) (4 * s .inputs)) (ltb (lent .constants) (4 * s .constants)) (ltb (lent .registers) 1156)
+    (workShort s (lent .work)) (ltb 16384 (lent .memory)) e in
+    (ltb-false _ _ (p .0), ltb-false _ _ (p .1))

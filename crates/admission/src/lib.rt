@@ -1,0 +1,65 @@
+// Whether a file may be run over what is lent, by lengths alone: the refusals of the check, and after them those for what is lent.
+use blocks::table::ROW_WORDS;
+use checker::Checked;
+use checker::Verdict;
+use checker::examine;
+use checker::program::Program;
+ghost use mathlib.Core.Path.{_≡_};
+ghost use mathlib.Core.List.{[]};
+ghost use Rattle.checker.specs.Check.{checkOf, programSeen, outcome, wordsAfter};
+ghost use Rattle.admission.specs.Admission.{lentRefusal, admissionOf};
+
+const REGISTER_WORDS: usize = 1156;
+
+const MOST_MEMORY_WORDS: usize = 16384;
+
+// How many words are lent of each.
+pub struct Sizes {
+    pub inputs: usize,
+    pub constants: usize,
+    pub registers: usize,
+    pub work: usize,
+    pub memory: usize,
+}
+
+// The number of the refusal 20 to 24 that is due, 0 for none.
+fn refusal(program: Program, sizes: Sizes) -> u8
+    ensures { λ r. ⌜ r ≡ lentRefusal (programSeen program [] []) sizes ⌝ }
+{
+    if sizes.inputs < 4 * program.inputs as usize {
+        20
+    } else if sizes.constants < 4 * program.constants as usize {
+        21
+    } else if sizes.registers < REGISTER_WORDS {
+        22
+    } else if sizes.work < ROW_WORDS * program.instructions as usize {
+        23
+    } else if MOST_MEMORY_WORDS < sizes.memory {
+        24
+    } else {
+        0
+    }
+}
+
+// What the check says of a file, and the refusal for what is lent where it is accepted. The immediates' words are the check's.
+pub fn admit(file: &[u8], sizes: Sizes, immediates: &mut [u32; 1024]) -> Checked
+    ensures admitted { λ r. ⌜ outcome r (now (immediates .exit)) ≡ admissionOf (now (file .entry)) sizes ⌝ }
+    ensures words { λ r. ⌜ now (immediates .exit) ≡ wordsAfter (checkOf (now (file .entry))) (now (immediates .entry)) ⌝ }
+{
+    let checked = examine(file, immediates);
+    let verdict = checked.verdict;
+    let program = checked.program;
+    match verdict {
+        Verdict::Refused(_, _) => checked,
+        Verdict::Accepted(_) => {
+            let number = refusal(program, sizes);
+            if number == 0 {
+                return checked;
+            }
+            Checked {
+                verdict: Verdict::Refused(number, 0),
+                program,
+            }
+        }
+    }
+}

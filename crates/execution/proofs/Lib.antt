@@ -1,0 +1,6 @@
+pub mod Loop
+pub mod Copies
+pub mod Indirect
+pub mod Rows
+pub mod Demand
+pub mod Past

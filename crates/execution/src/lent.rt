@@ -1,0 +1,63 @@
+// What is lent to a run: the registers cleared, and what is read and never written gathered in one bank.
+use machine::bank::Bank;
+use machine::bank::gather;
+use registers::sets::Declared;
+ghost use mathlib.Core.Path.{_≡_};
+ghost use mathlib.Core.List.{_++_};
+ghost use Prim.Native.Nat.{_≤_, _<_};
+ghost use lib.ListN.{length, getD};
+ghost use Rattle.registers.specs.Sets.{isIn};
+ghost use Rattle.machine.specs.Bank.{envIn};
+ghost use Rattle.machine.specs.Operands.{declaredIn, envWith};
+ghost use Rattle.execution.specs.Program.{cleared, askedIndirectly};
+
+const REGISTER_WORDS: usize = 1156;
+
+// Sets the register words to 0, and no word past them.
+pub fn clear(registers: &mut [u32])
+    requires { ⌜ 1156 ≤ length (now registers) ⌝ }
+    ensures { λ r. ⌜ now (registers .exit) ≡ cleared (now (registers .entry)) ⌝ }
+{
+    let mut i: usize = 0;
+    while i < REGISTER_WORDS {
+        registers[i] = 0;
+        i += 1;
+    }
+}
+
+fn declared_word(declared: Declared, i: usize) -> u32
+    requires { ⌜ i < 40 ⌝ }
+    ensures { λ r. ⌜ r ≡ getD ((declared .consts) ++ (declared .temps)) i 0 ⌝ }
+{
+    if i < 32 {
+        declared.consts[i]
+    } else {
+        declared.temps[i - 32]
+    }
+}
+
+// The bits of CONST and then those of TEMP: the files that an indirect operand asks of, as the machine asks.
+fn declared_words(declared: Declared) -> [u32; 40]
+    ensures { λ r. ⌜ declaredIn r ≡ askedIndirectly (isIn declared) ⌝ }
+{
+    let mut words = [0u32; 40];
+    let mut i: usize = 0;
+    while i < 40 {
+        words[i] = declared_word(declared, i);
+        i += 1;
+    }
+    words
+}
+
+// The bank of a program's declared sets and immediates, and of the lent inputs and constants.
+pub fn bank_of(
+    declared: Declared,
+    immediates: &[u32; 1024],
+    inputs: &[u32],
+    constants: &[u32],
+) -> Bank
+    ensures { λ r. ⌜ envIn r ≡ envWith (askedIndirectly (isIn declared)) (now (immediates .entry)) (now (inputs .entry)) (now (constants .entry)) ⌝ }
+{
+    let bits = declared_words(declared);
+    gather(&bits, immediates, inputs, constants)
+}

@@ -1,0 +1,18 @@
+// Carrying out a program that the check took, by the rows of its table, over what is lent.
+
+pub mod lent;
+pub mod steps;
+
+// What is told of the instructions that were carried out.
+pub struct Report {
+    // How many there were.
+    pub steps: u32,
+}
+
+// How a run stops.
+pub enum Stop {
+    // END was carried out.
+    Ended(Report),
+    // The budget was spent; the next instruction's number.
+    Halted(Report, u32),
+}
