@@ -4,6 +4,7 @@ use Prim.Native.Nat.{ℕ, _*_}
 use mathlib.Core.Bool.{Bool, cond}
 use mathlib.Core.List.{List}
 use lib.Dec.{eqb, ltb}
+use Rattle.format.specs.Files.{lentRegisters}
 use Rattle.blocks.specs.Table.{rowWords}
 use Rattle.checker.specs.Findings.{Seen}
 use Rattle.checker.specs.Check.{Outcome, accepted, refused, checkOf}
@@ -20,7 +21,7 @@ unfoldable pub lentRefusal : Seen → Sizes → ℕ
 lentRefusal s lent =
     cond (ltb (lent .inputs) (4 * s .inputs)) 20
     (cond (ltb (lent .constants) (4 * s .constants)) 21
-    (cond (ltb (lent .registers) 1156) 22
+    (cond (ltb (lent .registers) lentRegisters) 22
     (cond (workShort s (lent .work)) 23
     (cond (ltb 16384 (lent .memory)) 24 0))))
 

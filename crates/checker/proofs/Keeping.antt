@@ -13,7 +13,8 @@ use Rattle.format.specs.Records.{sizeAt}
 use Rattle.format.specs.Fields.{word32}
 use Rattle.format.specs.declared.fields.Declaration.{Declaration}
 use Rattle.blocks.specs.Nesting.{Open}
-use Rattle.registers.specs.Sets.{IN, CONST, none, isIn, withRange}
+use Rattle.registers.specs.Sets.{none, isIn, withRange}
+use Rattle.format.specs.Files.{IN, CONST}
 use Rattle.registers.specs.Rules.{declarationRule}
 use Rattle.registers.specs.declared.sets.Declared.{Declared}
 use Rattle.checker.specs.Findings.{nothing, reach, withDeclaration, immediateAt, withImmediate}

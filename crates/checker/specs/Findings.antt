@@ -13,7 +13,8 @@ use Rattle.format.specs.declared.fields.Declaration.{Declaration}
 use Rattle.blocks.specs.Control.{opOf}
 use Rattle.blocks.specs.Run.{mostInstructions}
 use Rattle.blocks.specs.Nesting.{Open, Ruling, goes, refused, rule}
-use Rattle.registers.specs.Sets.{Registers, none, withRange, CONST, IN}
+use Rattle.registers.specs.Sets.{Registers, none, withRange}
+use Rattle.format.specs.Files.{CONST, IN}
 use Rattle.registers.specs.Rules.{operandRules, declarationRule}
 use Rattle.registers.specs.Found.{overlaps, operandsFound}
 

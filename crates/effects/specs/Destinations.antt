@@ -6,6 +6,7 @@ use mathlib.Core.List.{List, [], _∷_}
 use lib.Dec.{leb, eqb}
 use lib.ListN.{getD, set, length}
 use Rattle.words.specs.Word.{bit}
+use Rattle.format.specs.Files.{OUT, TEMP, tempFrom, addrFrom}
 use Rattle.format.specs.declared.fields.Destination.{Destination}
 
 -- What an instruction changes.
@@ -32,7 +33,7 @@ masked mask put l = ifMasked mask 3 put (ifMasked mask 2 put (ifMasked mask 1 pu
 -- "OUT i from word 4i, TEMP i from 128+4i, ADDR from 1152" (01, Register files). "Destination OUT or TEMP; UARL only ADDR":
 -- files 3 and 4, and 5.
 unfoldable pub firstWord : Destination → ℕ
-firstWord d = cond (eqb (d .file) 3) (4 * d .index) (cond (eqb (d .file) 4) (128 + 4 * d .index) 1152)
+firstWord d = cond (eqb (d .file) OUT) (4 * d .index) (cond (eqb (d .file) TEMP) (tempFrom + 4 * d .index) addrFrom)
 
 -- Word i of a result goes to its place in the register whose words begin at `first`.
 abbrev pub placed : ℕ → List ℕ → ℕ → List ℕ → List ℕ

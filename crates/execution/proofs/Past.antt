@@ -13,6 +13,7 @@ use lib.ListN.{length, getD, set, drop, replicate, length-replicate}
 use lib.Seq.{drop-at, drop-set-lt, getD-drop}
 use Rattle.words.specs.Word.{bit}
 use Rattle.format.specs.Fields.{word16, destinationAt}
+use Rattle.format.specs.Files.{OUT, TEMP, tempFrom, addrFrom, lentRegisters}
 use Rattle.format.specs.Kinds.{destinations, formOf, within}
 use Rattle.format.specs.declared.fields.Destination.{Destination}
 use Rattle.format.proofs.Ranges.{every, in-range}
@@ -32,43 +33,43 @@ use Rattle.execution.specs.Program.{placeOf, envOf, programOf, cleared, 
 -- ---- A result that is written
 
 -- The words of a register lie below word 1,156.
-first-below : (d : Destination) → d .index < registersOf (d .file) → firstWord d + 4 ≤ 1156
+first-below : (d : Destination) → d .index < registersOf (d .file) → firstWord d + 4 ≤ lentRegisters
 unfolding firstWord
-first-below d h = by (eqb (d .file) 3) refl (eqb (d .file) 4) refl
+first-below d h = by (eqb (d .file) OUT) refl (eqb (d .file) TEMP) refl
   where
-    by : (t : Bool) → eqb (d .file) 3 ≡ t → (u : Bool) → eqb (d .file) 4 ≡ u → cond t (4 * d .index) (cond u (128 + 4 * d .index) 1152) + 4 ≤ 1156
+    by : (t : Bool) → eqb (d .file) OUT ≡ t → (u : Bool) → eqb (d .file) TEMP ≡ u → cond t (4 * d .index) (cond u (tempFrom + 4 * d .index) addrFrom) + 4 ≤ lentRegisters
     by true e u q =
-        let below : d .index < 32 = subst (λ (f : ℕ). d .index < registersOf f) (eqb-true (d .file) 3 e) h in
+        let below : d .index < 32 = subst (λ (f : ℕ). d .index < registersOf f) (eqb-true (d .file) OUT e) h in
         omega arith
     by false e true q =
-        let below : d .index < 256 = subst (λ (f : ℕ). d .index < registersOf f) (eqb-true (d .file) 4 q) h in
+        let below : d .index < 256 = subst (λ (f : ℕ). d .index < registersOf f) (eqb-true (d .file) TEMP q) h in
         omega arith
     by false e false q = omega arith
 
-masked-past : (mask i : ℕ) (put : ℕ → List ℕ → List ℕ) (l : List ℕ) → drop 1156 (put i l) ≡ drop 1156 l → drop 1156 (ifMasked mask i put l) ≡ drop 1156 l
+masked-past : (mask i : ℕ) (put : ℕ → List ℕ → List ℕ) (l : List ℕ) → drop lentRegisters (put i l) ≡ drop lentRegisters l → drop lentRegisters (ifMasked mask i put l) ≡ drop lentRegisters l
 unfolding ifMasked
 masked-past mask i put l h = by (eqb (bit mask i) 1)
   where
-    by : (t : Bool) → drop 1156 (cond t (put i l) l) ≡ drop 1156 l
+    by : (t : Bool) → drop lentRegisters (cond t (put i l) l) ≡ drop lentRegisters l
     by true = h
     by false = refl
 
-written-past : (r : List ℕ) (first mask : ℕ) (v : List ℕ) → first + 4 ≤ 1156 → drop 1156 (writtenAt r first mask v) ≡ drop 1156 r
+written-past : (r : List ℕ) (first mask : ℕ) (v : List ℕ) → first + 4 ≤ lentRegisters → drop lentRegisters (writtenAt r first mask v) ≡ drop lentRegisters r
 unfolding writtenAt masked
 written-past r first mask v h = by (leb (first + 4) (length r))
   where
-    one : (i : ℕ) (l : List ℕ) → i < 4 → drop 1156 (ifMasked mask i (placed first v) l) ≡ drop 1156 l
-    one i l b = masked-past mask i (placed first v) l (drop-set-lt 1156 l (first + i) (getD v i 0) (omega arith))
+    one : (i : ℕ) (l : List ℕ) → i < 4 → drop lentRegisters (ifMasked mask i (placed first v) l) ≡ drop lentRegisters l
+    one i l b = masked-past mask i (placed first v) l (drop-set-lt lentRegisters l (first + i) (getD v i 0) (omega arith))
 
-    by : (t : Bool) → drop 1156 (cond t (masked mask (placed first v) r) r) ≡ drop 1156 r
+    by : (t : Bool) → drop lentRegisters (cond t (masked mask (placed first v) r) r) ≡ drop lentRegisters r
     by true = one 3 _ (omega arith) ∙ one 2 _ (omega arith) ∙ one 1 _ (omega arith) ∙ one 0 r (omega arith)
     by false = refl
 
 -- ---- The effect of an instruction
 
 effect-past : (f : Family) (k : ℕ) (d : Destination) (o : List (List ℕ)) (s : State)
-    → firstWord d + 4 ≤ 1156
-    → drop 1156 (effectOf f k d o s .registers) ≡ drop 1156 (s .registers)
+    → firstWord d + 4 ≤ lentRegisters
+    → drop lentRegisters (effectOf f k d o s .registers) ≡ drop lentRegisters (s .registers)
 effect-past WORDS k d o s h = written-past (s .registers) (firstWord d) (d .mask) _ h
 effect-past WIDE-UNARY k d o s h = written-past (s .registers) (firstWord d) (d .mask) _ h
 effect-past LOAD k d o s h = written-past (s .registers) (firstWord d) (d .mask) _ h
@@ -144,26 +145,26 @@ module _ (file : List ℕ) (s : Seen) (ok : checkOf file ≡ accepted s) (inputs
     kind-is = getD-drop p file 0 0 ∙ ap (λ (i : ℕ). getD file i 0) (add-zero p)
 
     by-destination : (t : Bool) → eqb (destinations (formOf kind)) 0 ≡ t
-        → drop 1156 (effectOf (familyOf (kindByte bytes)) (kindByte bytes) (destinationAt bytes 1) operands st .registers) ≡ drop 1156 (st .registers)
+        → drop lentRegisters (effectOf (familyOf (kindByte bytes)) (kindByte bytes) (destinationAt bytes 1) operands st .registers) ≡ drop lentRegisters (st .registers)
     by-destination true e = rw (kind-is, no-effect kind (eqb-true _ _ e))
     by-destination false e =
         let inside = destination-inside kind file p (s .declared) (length (s .immediates)) (holds .operands n h .found) (holds .inside) (eqb-false _ _ e) in
         effect-past (familyOf (kindByte bytes)) (kindByte bytes) (destinationAt bytes 1) operands st
         (rw (destination-from file p) (first-below (destinationAt file (p + 1)) inside))
 
-    effect-keeps : (d : List ℕ) → drop 1156 (st .registers) ≡ d → drop 1156 (programOf s file inputs constants .effect n st .registers) ≡ d
+    effect-keeps : (d : List ℕ) → drop lentRegisters (st .registers) ≡ d → drop lentRegisters (programOf s file inputs constants .effect n st .registers) ≡ d
     unfolding recordEffect
     effect-keeps d same = by-destination (eqb (destinations (formOf kind)) 0) refl ∙ same
 
   -- After any number of steps the words past the registers are those before.
   pub reading-past : (budget : ℕ) (from : State)
-      → Stays (s .instructions) (λ (t : State). drop 1156 (t .registers) ≡ drop 1156 (from .registers)) (carriedOut s file inputs constants budget from)
+      → Stays (s .instructions) (λ (t : State). drop lentRegisters (t .registers) ≡ drop lentRegisters (from .registers)) (carriedOut s file inputs constants budget from)
   unfolding carriedOut
   reading-past budget from =
-      reading-stays (s .instructions) (λ (t : State). drop 1156 (t .registers) ≡ drop 1156 (from .registers)) (programOf s file inputs constants) budget
-      (λ n t h same. effect-keeps n h t (drop 1156 (from .registers)) same) (opFrom file (s .start)) from refl
+      reading-stays (s .instructions) (λ (t : State). drop lentRegisters (t .registers) ≡ drop lentRegisters (from .registers)) (programOf s file inputs constants) budget
+      (λ n t h same. effect-keeps n h t (drop lentRegisters (from .registers)) same) (opFrom file (s .start)) from refl
 
 -- "clears these and no word past them" (01, Register files)
-pub cleared-past : (registers : List ℕ) → drop 1156 (cleared registers) ≡ drop 1156 registers
+pub cleared-past : (registers : List ℕ) → drop lentRegisters (cleared registers) ≡ drop lentRegisters registers
 unfolding cleared
-cleared-past registers = drop-at (replicate 1156 0) (drop 1156 registers) 1156 (length-replicate {A = ℕ} 1156 0)
+cleared-past registers = drop-at (replicate lentRegisters 0) (drop lentRegisters registers) lentRegisters (length-replicate {A = ℕ} lentRegisters 0)

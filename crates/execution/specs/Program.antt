@@ -5,6 +5,7 @@ use mathlib.Core.Bool.{Bool, _&&_, _||_}
 use mathlib.Core.List.{List, _++_}
 use lib.Dec.{eqb}
 use lib.ListN.{drop, replicate}
+use Rattle.format.specs.Files.{CONST, TEMP, lentRegisters}
 use Rattle.format.specs.Records.{placeFrom}
 use Rattle.blocks.specs.Control.{Machine}
 use Rattle.blocks.specs.Lists.{Items, nestedLists}
@@ -24,7 +25,7 @@ listsOf s file = nestedLists (opFrom file (s .start)) (s .instructions)
 
 -- "Indirect only for CONST and TEMP" (01, Register files): of these two files alone an operand asks what is declared.
 abbrev pub askedIndirectly : (ℕ → ℕ → Bool) → ℕ → ℕ → Bool
-askedIndirectly declared f i = (eqb f 1 || eqb f 4) && declared f i
+askedIndirectly declared f i = (eqb f CONST || eqb f TEMP) && declared f i
 
 abbrev pub envOf : Seen → List ℕ → List ℕ → Env
 envOf s inputs constants = envWith (askedIndirectly (s .declared)) (s .immediates) inputs constants
@@ -34,7 +35,7 @@ programOf s file inputs constants = machineOf (envOf s inputs constants) file (p
 
 -- "A run checks, prepares, clears these and no word past them, then carries out." (01, Register files)
 unfoldable pub cleared : List ℕ → List ℕ
-cleared registers = replicate 1156 0 ++ drop 1156 registers
+cleared registers = replicate lentRegisters 0 ++ drop lentRegisters registers
 
 -- The block reading from a state. "It is given the file, inputs, constants, memory and budget, and nothing of the table."
 unfoldable pub carriedOut : Seen → List ℕ → List ℕ → List ℕ → ℕ → State → Reading State

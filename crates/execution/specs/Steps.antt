@@ -4,6 +4,7 @@ use Prim.Native.Nat.{ℕ, _<_, _≤_}
 use mathlib.Core.Path.{_≡_}
 use mathlib.Core.List.{List}
 use lib.ListN.{length}
+use Rattle.format.specs.Files.{lentRegisters}
 use Rattle.blocks.specs.Prepared.{opFrom}
 use Rattle.blocks.specs.Reading.{Reading, ended, halted}
 use Rattle.blocks.specs.Run.{run, mostInstructions}
@@ -46,5 +47,5 @@ pub record Came (file rows : List ℕ) (e : Env) (budget : ℕ) (s₀ : State) (
 
 -- The rows may be run: there are registers enough, and from cleared ones the run stays inside the program.
 pub record MayRun (file rows bank registers memory : List ℕ) : Type 0 where
-  pub enough : 1156 ≤ length registers
+  pub enough : lentRegisters ≤ length registers
   pub inside : StaysInside file rows (envIn bank) (state (cleared registers) memory)

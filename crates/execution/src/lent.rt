@@ -6,6 +6,7 @@ ghost use mathlib.Core.Path.{_≡_};
 ghost use mathlib.Core.List.{_++_};
 ghost use Prim.Native.Nat.{_≤_, _<_};
 ghost use lib.ListN.{length, getD};
+ghost use Rattle.format.specs.Files.{lentRegisters};
 ghost use Rattle.registers.specs.Sets.{isIn};
 ghost use Rattle.machine.specs.Bank.{envIn};
 ghost use Rattle.machine.specs.Operands.{declaredIn, envWith};
@@ -15,7 +16,7 @@ const REGISTER_WORDS: usize = 1156;
 
 // Sets the register words to 0, and no word past them.
 pub fn clear(registers: &mut [u32])
-    requires { ⌜ 1156 ≤ length (now registers) ⌝ }
+    requires { ⌜ lentRegisters ≤ length (now registers) ⌝ }
     ensures { λ r. ⌜ now (registers .exit) ≡ cleared (now (registers .entry)) ⌝ }
 {
     let mut i: usize = 0;

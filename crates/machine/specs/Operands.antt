@@ -1,12 +1,13 @@
 -- Operands: what a source reads (01, "Register files", "Instruction corners").
 -- Assumes nothing.
-use Prim.Native.Nat.{ℕ, _+_, _*_, _/_, _%_, _^_}
+use Prim.Native.Nat.{ℕ, _+_, _-_, _*_, _/_, _%_, _^_}
 use mathlib.Core.Bool.{Bool, false, cond, _&&_}
 use mathlib.Core.List.{List, [], _∷_}
 use lib.Dec.{ltb, leb, eqb}
 use lib.ListN.{getD, length, take}
 use lib.IntN.{ℤ, pos, negsuc, _+ℤ_}
 use Rattle.words.specs.Word.{bit, neg, signed}
+use Rattle.format.specs.Files.{CONST, IN, TEMP, IMM, tempFrom, addrFrom}
 use Rattle.format.specs.Kinds.{formOf, sources}
 use Rattle.format.specs.Fields.{sourceAt}
 use Rattle.format.specs.declared.fields.Source.{Source}
@@ -38,15 +39,15 @@ envWith declared immediates inputs constants =
       declared = declared;
     }
 
--- "which registers of each file are declared, one bit each" (01, Forms): 1,024 bits for CONST (file 1), then 256 for TEMP
--- (file 4), of which alone an indirect operand asks.
+-- "which registers of each file are declared, one bit each" (01, Forms): 1,024 bits for CONST, then 256 for TEMP, of
+-- which alone an indirect operand asks.
 abbrev pub bitIn : List ℕ → ℕ → Bool
 bitIn words i = eqb (bit (wordIn words (i / 32)) (i % 32)) 1
 
 unfoldable pub declaredIn : List ℕ → ℕ → ℕ → Bool
 declaredIn words f i =
-    cond (eqb f 1) (ltb i 1024 && bitIn words i)
-    (cond (eqb f 4) (ltb i 256 && bitIn words (1024 + i)) false)
+    cond (eqb f CONST) (ltb i 1024 && bitIn words i)
+    (cond (eqb f TEMP) (ltb i 256 && bitIn words (1024 + i)) false)
 
 -- ---- one source
 
@@ -58,14 +59,14 @@ fourOf word n = components (λ i. word (4 * n + i))
 unfoldable pub fourAt : List ℕ → ℕ → List ℕ
 fourAt words first = cond (leb (first + 4) (length words)) (components (λ i. wordIn words (first + i))) zeros
 
--- "Sources CONST, IN, TEMP, IMM": the words of register n of file 1, 2, 4 or 6. "TEMP i from 128+4i" (01, Register files)
+-- "Sources CONST, IN, TEMP, IMM": the words of register n of such a file. "TEMP i from 128+4i" (01, Register files)
 -- Other files, which no accepted source names, have none.
 unfoldable pub registerWords : Env → List ℕ → ℕ → ℕ → List ℕ
 registerWords e r f n =
-    cond (eqb f 1) (fourOf (e .constants) n)
-    (cond (eqb f 2) (fourOf (e .inputs) n)
-    (cond (eqb f 4) (fourAt r (128 + 4 * n))
-    (cond (eqb f 6) (fourOf (e .immediates) n) zeros)))
+    cond (eqb f CONST) (fourOf (e .constants) n)
+    (cond (eqb f IN) (fourOf (e .inputs) n)
+    (cond (eqb f TEMP) (fourAt r (tempFrom + 4 * n))
+    (cond (eqb f IMM) (fourOf (e .immediates) n) zeros)))
 
 -- "An indirect index is index plus ADDR as a signed number; a negative or undeclared sum reads 0." (01, Instruction corners)
 -- "modifier 1: negate + 2·indirect, indirect 0 for none or 1 to 4 for ADDR[0].x to .w" (01, The program file); "ADDR from 1152"
@@ -76,7 +77,7 @@ ifDeclared declared f (negsuc n) = Nowhere
 unfoldable pub registerOf : (ℕ → ℕ → Bool) → List ℕ → Source → Place
 registerOf declared r s =
     cond (eqb (s .modifier / 2) 0) (Register (s .index))
-    (ifDeclared declared (s .file) (pos (s .index) +ℤ signed 32 (wordIn r (1151 + s .modifier / 2))))
+    (ifDeclared declared (s .file) (pos (s .index) +ℤ signed 32 (wordIn r (addrFrom - 1 + s .modifier / 2))))
 
 -- "swizzle 1 (two bits per component, x lowest)" (01, The program file): component i is taken from this one.
 abbrev pub selected : ℕ → ℕ → ℕ

@@ -13,7 +13,8 @@ use Rattle.format.specs.Fields.{destinationAt, sourceAt}
 use Rattle.format.specs.declared.fields.Destination.{Destination}
 use Rattle.format.specs.declared.fields.Source.{Source}
 use Rattle.format.specs.declared.fields.Declaration.{Declaration}
-use Rattle.registers.specs.Sets.{Registers, none, withRange, registersOf, CONST, IN, TEMP, IMM, MEM}
+use Rattle.registers.specs.Sets.{Registers, none, withRange, registersOf}
+use Rattle.format.specs.Files.{CONST, IN, TEMP, IMM, MEM}
 use Rattle.registers.specs.Rules.{memoryKind, mayNegate, negated, indirect, destinationRule, sourceRule, allSources, allOperands, operandRules, declarationRule, CASE}
 use Rattle.registers.specs.Found.{destinationFound, sourceFound, operandsFound}
 use Rattle.registers.proofs.Choices.{never}

@@ -11,7 +11,8 @@ use Rattle.format.specs.Kinds.{destinations, sources, formOf}
 use Rattle.format.specs.Fields.{destinationAt, sourceAt}
 use Rattle.format.specs.declared.fields.Destination.{Destination}
 use Rattle.format.specs.declared.fields.Source.{Source}
-use Rattle.registers.specs.Sets.{Registers, ADDR, MEM, anyOf, registersOf}
+use Rattle.registers.specs.Sets.{Registers, anyOf, registersOf}
+use Rattle.format.specs.Files.{ADDR, MEM}
 use Rattle.registers.specs.Rules.{memoryKind, destinationFile, allSources, allOperands}
 use Rattle.registers.specs.Found.{destinationFound, sourceFound, operandsFound}
 

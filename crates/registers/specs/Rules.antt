@@ -9,7 +9,8 @@ use Rattle.format.specs.Fields.{destinationAt, sourceAt}
 use Rattle.format.specs.declared.fields.Destination.{Destination}
 use Rattle.format.specs.declared.fields.Source.{Source}
 use Rattle.format.specs.declared.fields.Declaration.{Declaration}
-use Rattle.registers.specs.Sets.{CONST, IN, OUT, TEMP, ADDR, IMM, MEM, registersOf}
+use Rattle.registers.specs.Sets.{registersOf}
+use Rattle.format.specs.Files.{CONST, IN, OUT, TEMP, ADDR, IMM, MEM}
 
 -- ---- Kinds that a rule names
 

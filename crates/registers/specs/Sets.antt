@@ -5,32 +5,12 @@ use mathlib.Core.List.{List, []}
 use mathlib.Core.Bool.{Bool, false, cond, _||_}
 use lib.Dec.{eqb}
 use lib.ListN.{getD}
+use Rattle.format.specs.Files.{CONST, IN, OUT, TEMP, ADDR, MEM}
 use Rattle.format.specs.Kinds.{within}
 use Rattle.registers.specs.declared.sets.Declared.{Declared}
 
--- "1 CONST 0-1023, 2 IN 0-31, 3 OUT 0-31, 4 TEMP 0-255, 5 ADDR 0, 6 IMM (.. not declared), 7 MEM 0." (01, Register files)
-abbrev pub CONST : ℕ
-CONST = 1
-
-abbrev pub IN : ℕ
-IN = 2
-
-abbrev pub OUT : ℕ
-OUT = 3
-
-abbrev pub TEMP : ℕ
-TEMP = 4
-
-abbrev pub ADDR : ℕ
-ADDR = 5
-
-abbrev pub IMM : ℕ
-IMM = 6
-
-abbrev pub MEM : ℕ
-MEM = 7
-
--- How many registers of a file can be declared.
+-- "1 CONST 0-1023, 2 IN 0-31, 3 OUT 0-31, 4 TEMP 0-255, 5 ADDR 0, 6 IMM (.. not declared), 7 MEM 0." (01, Register files): how many
+-- registers of a file can be declared.
 abbrev pub registersOf : ℕ → ℕ
 registersOf f =
     cond (eqb f CONST) 1024

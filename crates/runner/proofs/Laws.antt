@@ -6,6 +6,7 @@ use mathlib.Core.List.{List}
 use Prim.Native.Nat.{ℕ, _≤_}
 use native.Mathlib.Omega.{arith}
 use lib.ListN.{drop}
+use Rattle.format.specs.Files.{lentRegisters}
 use Rattle.blocks.specs.Reading.{Reading, out, brk, cont, ended, halted}
 use Rattle.blocks.proofs.Correct.{Final}
 use Rattle.blocks.proofs.Inside.{Stays}
@@ -28,7 +29,7 @@ reported-within budget work (out c s) f = absurd f
 reported-within budget work (brk c s) f = absurd f
 reported-within budget work (cont c s) f = absurd f
 
-reported-past : (N : ℕ) (d work : List ℕ) (r : Reading State) → Stays N (λ (t : State). drop 1156 (t .registers) ≡ d) r → drop 1156 (reported work r .lent .registers) ≡ d
+reported-past : (N : ℕ) (d work : List ℕ) (r : Reading State) → Stays N (λ (t : State). drop lentRegisters (t .registers) ≡ d) r → drop lentRegisters (reported work r .lent .registers) ≡ d
 reported-past N d work (ended c s) f = f
 reported-past N d work (halted n c s) f = f .1
 reported-past N d work (out c s) f = f
@@ -52,14 +53,14 @@ module _ (file inputs constants : List ℕ) (words : Lent) (budget : ℕ) where
           (state (cleared (words .registers)) (words .memory)))
 
   -- "clears these and no word past them" (01, Register files)
-  pub past-stays : drop 1156 (runOf file inputs constants words budget .lent .registers) ≡ drop 1156 (words .registers)
+  pub past-stays : drop lentRegisters (runOf file inputs constants words budget .lent .registers) ≡ drop lentRegisters (words .registers)
   unfolding runOf runAdmitted
   past-stays = by (admissionOf file (sizesOf inputs constants words)) refl
     where
-      by : (o : Outcome) → admissionOf file (sizesOf inputs constants words) ≡ o → drop 1156 (runAdmitted o file inputs constants words budget .lent .registers) ≡ drop 1156 (words .registers)
+      by : (o : Outcome) → admissionOf file (sizesOf inputs constants words) ≡ o → drop lentRegisters (runAdmitted o file inputs constants words budget .lent .registers) ≡ drop lentRegisters (words .registers)
       by (refused number place) e = refl
       by (accepted s) e =
-          reported-past (s .instructions) (drop 1156 (cleared (words .registers))) (preparedIn s file (words .work)) (read s)
+          reported-past (s .instructions) (drop lentRegisters (cleared (words .registers))) (preparedIn s file (words .work)) (read s)
           (reading-past file s (admitted-is file (sizesOf inputs constants words) s e .follows) inputs constants budget
           (state (cleared (words .registers)) (words .memory)))
           ∙ cleared-past (words .registers)
