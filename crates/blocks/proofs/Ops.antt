@@ -1,12 +1,12 @@
 -- The control instruction of a kind byte: one of the twelve kinds, or PLAIN.
 -- Assumes nothing.
-use mathlib.Core.Path.{_≡_, refl}
+use mathlib.Core.Path.{_≡_, refl, sym, ap, _∙_}
 use mathlib.Core.Bool.{Bool, true, false, cond, false≢true}
 use mathlib.Core.Logic.{_⊎_, inl, inr}
 use Prim.Native.Nat.{ℕ}
 use lib.Dec.{eqb}
-use borrow.Author.Tests.{eqb-true, eqb-false}
-use Rattle.blocks.specs.Control.{Op, PLAIN, ELSE, ENDIF, BGNLOOP, ENDLOOP, BRK, CONT, DEFAULT, ENDSWITCH, END, UIF, SWITCH, CASE, is, isLabel, opOf}
+use borrow.Author.Tests.{eqb-true, eqb-false, ne-eqb}
+use Rattle.blocks.specs.Control.{Op, PLAIN, ELSE, ENDIF, BGNLOOP, ENDLOOP, BRK, CONT, DEFAULT, ENDSWITCH, END, UIF, SWITCH, CASE, kindOf, is, isLabel, opOf}
 use Rattle.blocks.specs.Nesting.{opens}
 use Rattle.blocks.specs.Prepared.{closes}
 use Rattle.blocks.specs.Table.{Targets, jumpOf}
@@ -42,35 +42,59 @@ or-else P k n o p found other = on (eqb k n) refl
     on true e = found (eqb-true k n e)
     on false e = other (eqb-false k n e)
 
-module _ (P : Op → Type 0) (k : ℕ) where
-  pub op-cases : (k ≡ 0x81 → P ELSE)
-      → (k ≡ 0x82 → P ENDIF)
-      → (k ≡ 0x83 → P BGNLOOP)
-      → (k ≡ 0x84 → P ENDLOOP)
-      → (k ≡ 0x85 → P BRK)
-      → (k ≡ 0x86 → P CONT)
-      → (k ≡ 0x87 → P DEFAULT)
-      → (k ≡ 0x88 → P ENDSWITCH)
-      → (k ≡ 0x89 → P END)
-      → (k ≡ 0x90 → P UIF)
-      → (k ≡ 0x91 → P SWITCH)
-      → (k ≡ 0x92 → P CASE)
-      → P PLAIN
-      → P (opOf k)
-  unfolding opOf
-  op-cases a b c d e f g h i j l m n =
-      or-else P k 0x81 _ _ a λ u.
-      or-else P k 0x82 _ _ b λ u.
-      or-else P k 0x83 _ _ c λ u.
-      or-else P k 0x84 _ _ d λ u.
-      or-else P k 0x85 _ _ e λ u.
-      or-else P k 0x86 _ _ f λ u.
-      or-else P k 0x87 _ _ g λ u.
-      or-else P k 0x88 _ _ h λ u.
-      or-else P k 0x89 _ _ i λ u.
-      or-else P k 0x90 _ _ j λ u.
-      or-else P k 0x91 _ _ l λ u.
-      or-else P k 0x92 _ _ m λ u. n
+-- What holds of each control instruction whose kind this is, and of PLAIN, holds of the one that the kind byte stands for.
+pub by-kind : (P : Op → Type 0) (k : ℕ) → ((o : Op) → k ≡ kindOf o → P o) → P PLAIN → P (opOf k)
+unfolding opOf
+by-kind P k there plain =
+    or-else P k 0x81 _ _ (there ELSE) λ u.
+    or-else P k 0x82 _ _ (there ENDIF) λ u.
+    or-else P k 0x83 _ _ (there BGNLOOP) λ u.
+    or-else P k 0x84 _ _ (there ENDLOOP) λ u.
+    or-else P k 0x85 _ _ (there BRK) λ u.
+    or-else P k 0x86 _ _ (there CONT) λ u.
+    or-else P k 0x87 _ _ (there DEFAULT) λ u.
+    or-else P k 0x88 _ _ (there ENDSWITCH) λ u.
+    or-else P k 0x89 _ _ (there END) λ u.
+    or-else P k 0x90 _ _ (there UIF) λ u.
+    or-else P k 0x91 _ _ (there SWITCH) λ u.
+    or-else P k 0x92 _ _ (there CASE) λ u. plain
+
+op-of-kind : (o : Op) → opOf (kindOf o) ≡ o
+unfolding opOf
+op-of-kind PLAIN = refl
+op-of-kind ELSE = refl
+op-of-kind ENDIF = refl
+op-of-kind BGNLOOP = refl
+op-of-kind ENDLOOP = refl
+op-of-kind BRK = refl
+op-of-kind CONT = refl
+op-of-kind DEFAULT = refl
+op-of-kind ENDSWITCH = refl
+op-of-kind END = refl
+op-of-kind UIF = refl
+op-of-kind SWITCH = refl
+op-of-kind CASE = refl
+
+-- A kind byte stands for a control instruction exactly if it is that instruction's kind.
+module _ (o : Op) (k : ℕ) (control : is PLAIN o ≡ false) where
+  pub is-kind : is o (opOf k) ≡ eqb (kindOf o) k
+  is-kind = by-kind (λ p. opOf k ≡ p → is o p ≡ eqb (kindOf o) k) k (λ p e q. ap (eqb (kindOf o)) (sym e)) (λ q. sym (plain q (eqb (kindOf o) k) refl)) refl
+    where
+      plain : opOf k ≡ PLAIN → (t : Bool) → eqb (kindOf o) k ≡ t → t ≡ is o PLAIN
+      plain q true e =
+          let same : o ≡ PLAIN = sym (op-of-kind o) ∙ ap opOf (eqb-true (kindOf o) k e) ∙ q in
+          absurd (false≢true (sym control ∙ ap (is PLAIN) same))
+      plain q false e = sym (ne-eqb (kindOf o) (kindOf PLAIN) (λ r. eqb-false (kindOf PLAIN) (kindOf o) control (sym r)))
+
+  pub kind-is : eqb k (kindOf o) ≡ is o (opOf k)
+  kind-is = swap (eqb (kindOf o) k) refl ∙ sym is-kind
+    where
+      swap : (t : Bool) → eqb (kindOf o) k ≡ t → eqb k (kindOf o) ≡ eqb (kindOf o) k
+      swap true e = rw (eqb-true (kindOf o) k e)
+      swap false e = ne-eqb k (kindOf o) (λ r. eqb-false (kindOf o) k e (sym r)) ∙ sym e
+
+  pub not-kind : (k ≡ kindOf o → ⊥) → is o (opOf k) ≡ false
+  not-kind other = is-kind ∙ ne-eqb (kindOf o) k (λ e. other (sym e))
 
 pub not-last : (k : ℕ)
     → (k ≡ 0x81 → ⊥)
@@ -80,27 +104,41 @@ pub not-last : (k : ℕ)
     → (k ≡ 0x89 → ⊥)
     → false ≡ closes (opOf k)
 not-last k a b d h i =
-    op-cases (λ o. false ≡ closes o) k (λ e. absurd (a e)) (λ e. absurd (b e)) (λ e. refl) (λ e. absurd (d e)) (λ e. refl) (λ e. refl)
-    (λ e. refl) (λ e. absurd (h e)) (λ e. absurd (i e)) (λ e. refl) (λ e. refl) (λ e. refl) refl
+    rw (
+      not-kind ELSE k refl a,
+      not-kind ENDIF k refl b,
+      not-kind ENDLOOP k refl d,
+      not-kind ENDSWITCH k refl h,
+      not-kind END k refl i,
+    )
 
 pub not-opening : (k : ℕ) → (k ≡ 0x83 → ⊥) → (k ≡ 0x90 → ⊥) → (k ≡ 0x91 → ⊥) → false ≡ opens (opOf k)
-not-opening k c j l =
-    op-cases (λ o. false ≡ opens o) k (λ e. refl) (λ e. refl) (λ e. absurd (c e)) (λ e. refl) (λ e. refl) (λ e. refl) (λ e. refl)
-    (λ e. refl) (λ e. refl) (λ e. absurd (j e)) (λ e. absurd (l e)) (λ e. refl) refl
+not-opening k c j l = rw (not-kind BGNLOOP k refl c, not-kind UIF k refl j, not-kind SWITCH k refl l)
 
 pub not-label : (k : ℕ) → (k ≡ 0x87 → ⊥) → (k ≡ 0x92 → ⊥) → false ≡ isLabel (opOf k)
-not-label k g m =
-    op-cases (λ o. false ≡ isLabel o) k (λ e. refl) (λ e. refl) (λ e. refl) (λ e. refl) (λ e. refl) (λ e. refl) (λ e. absurd (g e))
-    (λ e. refl) (λ e. refl) (λ e. refl) (λ e. refl) (λ e. absurd (m e)) refl
+not-label k g m = rw (not-kind DEFAULT k refl g, not-kind CASE k refl m)
 
 module _ (k : ℕ) (h : opens (opOf k) ≡ true) where
   opening-kind : (A : Type 0) → (k ≡ 0x83 → A) → (k ≡ 0x90 → A) → (k ≡ 0x91 → A) → A
-  opening-kind A l u s =
-      op-cases (λ o. opens o ≡ true → A) k (λ e. none) (λ e. none) (λ e d. l e) (λ e. none) (λ e. none) (λ e. none) (λ e. none)
-      (λ e. none) (λ e. none) (λ e d. u e) (λ e d. s e) (λ e. none) none h
+  opening-kind A l u s = by-kind (λ o. opens o ≡ true → A) k on none h
     where
       none : false ≡ true → A
       none d = absurd (false≢true d)
+
+      on : (o : Op) → k ≡ kindOf o → opens o ≡ true → A
+      on BGNLOOP e d = l e
+      on UIF e d = u e
+      on SWITCH e d = s e
+      on PLAIN e d = none d
+      on ELSE e d = none d
+      on ENDIF e d = none d
+      on ENDLOOP e d = none d
+      on BRK e d = none d
+      on CONT e d = none d
+      on DEFAULT e d = none d
+      on ENDSWITCH e d = none d
+      on END e d = none d
+      on CASE e d = none d
 
   pub loop-or-switch : (k ≡ 0x90 → ⊥) → (k ≡ 0x83) ⊎ (k ≡ 0x91)
   loop-or-switch u = opening-kind ((k ≡ 0x83) ⊎ (k ≡ 0x91)) (λ e. inl e) (λ e. absurd (u e)) (λ e. inr e)
@@ -109,9 +147,7 @@ module _ (k : ℕ) (h : opens (opOf k) ≡ true) where
   uif-left l s = opening-kind (k ≡ 0x90) (λ e. absurd (l e)) (λ e. e) (λ e. absurd (s e))
 
 pub not-else : (k : ℕ) → (k ≡ 0x81 → ⊥) → is ELSE (opOf k) ≡ false
-not-else k a =
-    op-cases (λ o. is ELSE o ≡ false) k (λ e. absurd (a e)) (λ e. refl) (λ e. refl) (λ e. refl) (λ e. refl) (λ e. refl) (λ e. refl)
-    (λ e. refl) (λ e. refl) (λ e. refl) (λ e. refl) (λ e. refl) refl
+not-else k a = not-kind ELSE k refl a
 
 pub no-jump : (t : Targets) (k : ℕ)
     → (k ≡ 0x81 → ⊥)
@@ -119,9 +155,22 @@ pub no-jump : (t : Targets) (k : ℕ)
     → (k ≡ 0x85 → ⊥)
     → (k ≡ 0x86 → ⊥)
     → 0 ≡ jumpOf (opOf k) t
-no-jump t k a d e f =
-    op-cases (λ o. 0 ≡ jumpOf o t) k (λ u. absurd (a u)) (λ u. refl) (λ u. refl) (λ u. absurd (d u)) (λ u. absurd (e u))
-    (λ u. absurd (f u)) (λ u. refl) (λ u. refl) (λ u. refl) (λ u. refl) (λ u. refl) (λ u. refl) refl
+no-jump t k a d e f = by-kind (λ o. 0 ≡ jumpOf o t) k on refl
+  where
+    on : (o : Op) → k ≡ kindOf o → 0 ≡ jumpOf o t
+    on ELSE h = absurd (a h)
+    on ENDLOOP h = absurd (d h)
+    on BRK h = absurd (e h)
+    on CONT h = absurd (f h)
+    on PLAIN h = refl
+    on ENDIF h = refl
+    on BGNLOOP h = refl
+    on DEFAULT h = refl
+    on ENDSWITCH h = refl
+    on END h = refl
+    on UIF h = refl
+    on SWITCH h = refl
+    on CASE h = refl
 
 -- What holds of each mark that ends a list.
 pub closing-cases : (P : Op → Type 0) (o : Op) → closes o ≡ true → P ELSE → P ENDIF → P ENDLOOP → P ENDSWITCH → P END → P o

@@ -19,13 +19,13 @@ use Rattle.format.specs.Fields.{declarationAt, caseWord}
 use Rattle.format.proofs.Walk.{place-step}
 use Rattle.blocks.specs.Control.{Op, END, is, opOf}
 use Rattle.blocks.specs.Nesting.{accepts}
+use Rattle.blocks.proofs.Ops.{kind-is}
 use Rattle.registers.specs.Sets.{Registers, registersOf}
 use Rattle.registers.specs.Rules.{operandRules, declarationRule}
 use Rattle.registers.specs.Found.{overlaps, operandsFound}
 use Rattle.registers.proofs.Named.{Inside, none-inside, more-inside}
 use Rattle.checker.specs.Findings.{Seen, nothing, Finding, taken, due, immediateAt, withDeclaration, declarationFinding, withImmediate, immediateFinding, withInstruction, recordFinding}
 use Rattle.checker.specs.Check.{accepted, refused, onward, walk, checkOf}
-use Rattle.checker.proofs.Stack.{op-cases}
 use Rattle.checker.proofs.Walking.{due-not-taken, past-due, taken-whole, taken-declaration, taken-immediate, taken-instruction, Passed, passed}
 
 not-accepted : {A : Type 0} {n p : ℕ} {s : Seen} → refused n p ≡ accepted s → A
@@ -38,10 +38,7 @@ same-taken : (s u : Seen) → taken s ≡ taken u → s ≡ u
 same-taken s u e = cc
 
 is-end : (k : ℕ) → eqb k 0x89 ≡ is END (opOf k)
-unfolding opOf
-is-end =
-    op-cases (λ (k : ℕ). eqb k 0x89 ≡ is END (opOf k)) refl refl refl refl refl refl refl refl refl refl refl refl
-    (λ k plain loop end uif switch. rw (plain, end))
+is-end k = kind-is END k refl
 
 -- A record of an instruction at a place.
 pub record Instruction (file : List ℕ) (p : ℕ) : Type 0 where

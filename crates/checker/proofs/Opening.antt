@@ -12,12 +12,13 @@ use lib.ListN.{length, getD, set, drop}
 use lib.Seq.{getD-set-same, getD-set-other}
 use borrow.Author.Tests.{leb-false, not-false}
 use Rattle.format.specs.Kinds.{within}
-use Rattle.blocks.specs.Control.{CASE, DEFAULT, opOf}
+use Rattle.blocks.specs.Control.{Op, PLAIN, ELSE, ENDIF, BGNLOOP, ENDLOOP, BRK, CONT, DEFAULT, ENDSWITCH, END, UIF, SWITCH, CASE, kindOf, opOf}
+use Rattle.blocks.proofs.Ops.{by-kind}
 use Rattle.blocks.specs.Nesting.{Open, isUif, anySwitch, innermost, nestingRule, switchRule, opens, openAfter, goes, refused, rule}
 use Rattle.registers.proofs.Choices.{never}
 use Rattle.checker.specs.Held.{openOf, newestFirst, blocksIn, blocksOf, topCode, topStart, topValues, Stacked, SoundBlocks}
 use Rattle.checker.specs.declared.nesting.Blocks.{Blocks}
-use Rattle.checker.proofs.Stack.{pred, code-cases, op-cases, label-by, blocks-length}
+use Rattle.checker.proofs.Stack.{pred, code-cases, label-by, blocks-length}
 
 -- ---- What lies below
 
@@ -180,15 +181,22 @@ after-default b values kind x l sound e h q =
 
 pub after-others : (kind x : ℕ) (σ : List Open) → (kind ≡ 0x81 → ⊥) → (kind ≡ 0x82 → ⊥) → (kind ≡ 0x83 → ⊥) → (kind ≡ 0x84 → ⊥) → (kind ≡ 0x87 → ⊥) → (kind ≡ 0x88 → ⊥)
     → (kind ≡ 0x90 → ⊥) → (kind ≡ 0x91 → ⊥) → (kind ≡ 0x92 → ⊥) → σ ≡ openAfter (opOf kind) x σ
-unfolding opOf
-after-others kind x σ =
-    op-cases (λ (k : ℕ). (k ≡ 0x81 → ⊥) → (k ≡ 0x82 → ⊥) → (k ≡ 0x83 → ⊥) → (k ≡ 0x84 → ⊥) → (k ≡ 0x87 → ⊥) → (k ≡ 0x88 → ⊥) → (k ≡ 0x90 → ⊥) → (k ≡ 0x91 → ⊥) → (k ≡ 0x92 → ⊥)
-    → σ ≡ openAfter (opOf k) x σ)
-    (λ a b c d e f g h i. absurd (a refl)) (λ a b c d e f g h i. absurd (b refl)) (λ a b c d e f g h i. absurd (c refl))
-    (λ a b c d e f g h i. absurd (d refl)) (λ a b c d e f g h i. refl) (λ a b c d e f g h i. refl)
-    (λ a b c d e f g h i. absurd (e refl)) (λ a b c d e f g h i. absurd (f refl)) (λ a b c d e f g h i. refl)
-    (λ a b c d e f g h i. absurd (g refl)) (λ a b c d e f g h i. absurd (h refl)) (λ a b c d e f g h i. absurd (i refl))
-    (λ k plain _ _ _ _ a b c d e f g h i. rw plain refl) kind
+after-others kind x σ a b c d e f g h i = by-kind (λ o. σ ≡ openAfter o x σ) kind on refl
+  where
+    on : (o : Op) → kind ≡ kindOf o → σ ≡ openAfter o x σ
+    on ELSE q = absurd (a q)
+    on ENDIF q = absurd (b q)
+    on BGNLOOP q = absurd (c q)
+    on ENDLOOP q = absurd (d q)
+    on BRK q = refl
+    on CONT q = refl
+    on DEFAULT q = absurd (e q)
+    on ENDSWITCH q = absurd (f q)
+    on END q = refl
+    on UIF q = absurd (g q)
+    on SWITCH q = absurd (h q)
+    on CASE q = absurd (i q)
+    on PLAIN q = refl
 
 -- ---- What the rule says
 

@@ -9,9 +9,10 @@ use native.Mathlib.Omega.{arith}
 use lib.Dec.{eqb}
 use lib.ListN.{length, getD}
 use Rattle.format.specs.Kinds.{within}
-use Rattle.blocks.specs.Control.{PLAIN, opOf}
+use Rattle.blocks.specs.Control.{Op, PLAIN, ELSE, ENDIF, BGNLOOP, ENDLOOP, BRK, CONT, DEFAULT, ENDSWITCH, END, UIF, SWITCH, CASE, kindOf, opOf}
 use Rattle.blocks.specs.Nesting.{Open, isUif, isElse, isLoop, isSwitch, anySwitch, some, innermost, nestingRule, switchRule, opens}
-use Rattle.registers.proofs.Choices.{when-number, and-false}
+use Rattle.blocks.proofs.Ops.{by-kind, kind-is}
+use Rattle.registers.proofs.Choices.{and-false}
 use Rattle.checker.specs.Held.{openOf, newestFirst, blocksIn, blocksOf, topCode, topStart, topValues, someCode, Stacked, SoundBlocks}
 use Rattle.checker.specs.declared.nesting.Blocks.{Blocks}
 
@@ -21,23 +22,6 @@ and-true false = refl
 
 pub pred : (n : ℕ) → (n ≡ 0 → ⊥) → n ≡ suc (n - 1)
 pred n h = omega arith
-
--- ---- Kinds
-
--- A property of every kind, from the twelve that steer and the others.
-pub op-cases : (P : ℕ → Type 0) → P 0x81 → P 0x82 → P 0x83 → P 0x84 → P 0x85 → P 0x86 → P 0x87 → P 0x88 → P 0x89 → P 0x90 → P 0x91 → P 0x92
-    → ((k : ℕ) → opOf k ≡ PLAIN → eqb k 0x83 ≡ false → eqb k 0x89 ≡ false → eqb k 0x90 ≡ false → eqb k 0x91 ≡ false → P k) → (k : ℕ) → P k
-unfolding opOf
-op-cases P p81 p82 p83 p84 p85 p86 p87 p88 p89 p90 p91 p92 plain k =
-    when-number P 0x81 p81 k (λ e81. when-number P 0x82 p82 k (λ e82. when-number P 0x83 p83 k (λ e83.
-    when-number P 0x84 p84 k (λ e84. when-number P 0x85 p85 k (λ e85. when-number P 0x86 p86 k (λ e86.
-    when-number P 0x87 p87 k (λ e87. when-number P 0x88 p88 k (λ e88. when-number P 0x89 p89 k (λ e89.
-    when-number P 0x90 p90 k (λ e90. when-number P 0x91 p91 k (λ e91. when-number P 0x92 p92 k (λ e92.
-    plain k (others e81 e82 e83 e84 e85 e86 e87 e88 e89 e90 e91 e92) e83 e89 e90 e91))))))))))))
-  where
-    others : eqb k 0x81 ≡ false → eqb k 0x82 ≡ false → eqb k 0x83 ≡ false → eqb k 0x84 ≡ false → eqb k 0x85 ≡ false → eqb k 0x86 ≡ false
-        → eqb k 0x87 ≡ false → eqb k 0x88 ≡ false → eqb k 0x89 ≡ false → eqb k 0x90 ≡ false → eqb k 0x91 ≡ false → eqb k 0x92 ≡ false → opOf k ≡ PLAIN
-    others e81 e82 e83 e84 e85 e86 e87 e88 e89 e90 e91 e92 = rw (e81, e82, e83, e84, e85, e86, e87, e88, e89, e90, e91, e92)
 
 -- ---- Codes
 
@@ -123,15 +107,22 @@ end-by b kind values e =
 
 pub nested-anyway : (b : Blocks) (kind : ℕ) (values : List ℕ) → (kind ≡ 0x81 → ⊥) → (kind ≡ 0x82 → ⊥) → (kind ≡ 0x84 → ⊥) → (kind ≡ 0x85 → ⊥)
     → (kind ≡ 0x86 → ⊥) → (kind ≡ 0x87 → ⊥) → (kind ≡ 0x88 → ⊥) → (kind ≡ 0x89 → ⊥) → (kind ≡ 0x92 → ⊥) → true ≡ nestingRule (opOf kind) (blocksOf b values)
-unfolding opOf
-nested-anyway β kind values =
-    op-cases (λ (k : ℕ). (k ≡ 0x81 → ⊥) → (k ≡ 0x82 → ⊥) → (k ≡ 0x84 → ⊥) → (k ≡ 0x85 → ⊥) → (k ≡ 0x86 → ⊥) → (k ≡ 0x87 → ⊥) → (k ≡ 0x88 → ⊥) → (k ≡ 0x89 → ⊥) → (k ≡ 0x92 → ⊥)
-    → true ≡ nestingRule (opOf k) (blocksOf β values))
-    (λ a b c d e f g h i. absurd (a refl)) (λ a b c d e f g h i. absurd (b refl)) (λ a b c d e f g h i. refl)
-    (λ a b c d e f g h i. absurd (c refl)) (λ a b c d e f g h i. absurd (d refl)) (λ a b c d e f g h i. absurd (e refl))
-    (λ a b c d e f g h i. absurd (f refl)) (λ a b c d e f g h i. absurd (g refl)) (λ a b c d e f g h i. absurd (h refl))
-    (λ a b c d e f g h i. refl) (λ a b c d e f g h i. refl) (λ a b c d e f g h i. absurd (i refl))
-    (λ k plain _ _ _ _ a b c d e f g h i. rw plain refl) kind
+nested-anyway β kind values a b c d e f g h i = by-kind (λ o. true ≡ nestingRule o (blocksOf β values)) kind on refl
+  where
+    on : (o : Op) → kind ≡ kindOf o → true ≡ nestingRule o (blocksOf β values)
+    on ELSE q = absurd (a q)
+    on ENDIF q = absurd (b q)
+    on BGNLOOP q = refl
+    on ENDLOOP q = absurd (c q)
+    on BRK q = absurd (d q)
+    on CONT q = absurd (e q)
+    on DEFAULT q = absurd (f q)
+    on ENDSWITCH q = absurd (g q)
+    on END q = absurd (h q)
+    on UIF q = refl
+    on SWITCH q = refl
+    on CASE q = absurd (i q)
+    on PLAIN q = refl
 
 -- ---- What the code reads
 
@@ -216,16 +207,22 @@ module _ (b : Blocks) (sound : SoundBlocks b) (kind x : ℕ) (values : List ℕ)
         rw q
         (ap not (by-top (isSwitch (λ vs d. eqb (length vs) 0 && not d)) (λ k. within 3 3 k && eqb (b .held - start) 0) refl refl refl refl
         (sym (and-true (eqb (length (topValues b values)) 0) ∙ ap (λ (m : ℕ). eqb m 0) many)) (sym (and-false (eqb (length (topValues b values)) 0))))
-        ∙ plainly kind n87 n88 n92)
+        ∙ by-kind (λ o. not (innermost (isSwitch (λ vs d. eqb (length vs) 0 && not d)) (blocksOf b values)) ≡ switchRule o x (blocksOf b values)) kind on refl)
       where
-        plainly : (k : ℕ) → (k ≡ 0x87 → ⊥) → (k ≡ 0x88 → ⊥) → (k ≡ 0x92 → ⊥) → not (innermost (isSwitch (λ vs d. eqb (length vs) 0 && not d)) (blocksOf b values)) ≡ switchRule (opOf k) x (blocksOf b values)
-        plainly =
-            op-cases (λ (k : ℕ). (k ≡ 0x87 → ⊥) → (k ≡ 0x88 → ⊥) → (k ≡ 0x92 → ⊥) → not (innermost (isSwitch (λ vs d. eqb (length vs) 0 && not d)) (blocksOf b values)) ≡ switchRule (opOf k) x (blocksOf b values))
-            (λ a b c. refl) (λ a b c. refl) (λ a b c. refl) (λ a b c. refl) (λ a b c. refl) (λ a b c. refl) (λ a b c. absurd (a refl))
-            (λ a b c. absurd (b refl)) (λ a b c. refl) (λ a b c. refl) (λ a b c. refl) (λ a b c. absurd (c refl)) (λ k plain _ _ _ _ a b c. rw plain refl)
+        on : (o : Op) → kind ≡ kindOf o → not (innermost (isSwitch (λ vs d. eqb (length vs) 0 && not d)) (blocksOf b values)) ≡ switchRule o x (blocksOf b values)
+        on ELSE e = refl
+        on ENDIF e = refl
+        on BGNLOOP e = refl
+        on ENDLOOP e = refl
+        on BRK e = refl
+        on CONT e = refl
+        on DEFAULT e = absurd (n87 e)
+        on ENDSWITCH e = absurd (n88 e)
+        on END e = refl
+        on UIF e = refl
+        on SWITCH e = refl
+        on CASE e = absurd (n92 e)
+        on PLAIN e = refl
 
 pub opens-by : (kind : ℕ) → (eqb kind 0x90 || eqb kind 0x83 || eqb kind 0x91) ≡ opens (opOf kind)
-unfolding opOf
-opens-by =
-    op-cases (λ (k : ℕ). (eqb k 0x90 || eqb k 0x83 || eqb k 0x91) ≡ opens (opOf k)) refl refl refl refl refl refl refl refl refl refl refl refl
-    (λ k plain loop end uif switch. rw (plain, loop, uif, switch))
+opens-by kind = rw (kind-is UIF kind refl, kind-is BGNLOOP kind refl, kind-is SWITCH kind refl)

@@ -13,8 +13,8 @@ use Rattle.format.specs.Fields.{destinationAt}
 use Rattle.format.proofs.Ranges.{and-left, and-right, every, in-range}
 use Rattle.blocks.specs.Table.{placeIn, rowIn}
 use Rattle.blocks.specs.Run.{Step, comesNext, mostInstructions, step, walk}
-use Rattle.blocks.specs.Control.{Machine, Op, PLAIN, ELSE, ENDLOOP, BRK, CONT, END, UIF, SWITCH, is, opOf}
-use Rattle.blocks.proofs.Ops.{op-cases}
+use Rattle.blocks.specs.Control.{Machine, Op, PLAIN, ELSE, ENDIF, BGNLOOP, ENDLOOP, BRK, CONT, DEFAULT, ENDSWITCH, END, UIF, SWITCH, CASE, kindOf, opOf}
+use Rattle.blocks.proofs.Ops.{by-kind}
 use Prim.Native.Nat.{_+_, _-_, _<_, _≤_, suc, ℕ}
 use mathlib.Core.Path.{_∙_, _≡_, ap, refl, sym}
 use mathlib.Core.Logic.{⊎-elim}
@@ -117,12 +117,22 @@ module _ (e : Env) (file rows : List ℕ) (n : ℕ) (r m : List ℕ) where
     next-is = ap At (add-one n)
 
     plain-kind : k < 0x71 → opOf k ≡ PLAIN
-    plain-kind b =
-        op-cases (λ p. p ≡ PLAIN) k
-        (λ h. absurd (omega arith)) (λ h. absurd (omega arith)) (λ h. absurd (omega arith)) (λ h. absurd (omega arith))
-        (λ h. absurd (omega arith)) (λ h. absurd (omega arith)) (λ h. absurd (omega arith)) (λ h. absurd (omega arith))
-        (λ h. absurd (omega arith)) (λ h. absurd (omega arith)) (λ h. absurd (omega arith)) (λ h. absurd (omega arith))
-        refl
+    plain-kind b = by-kind (λ o. o ≡ PLAIN) k low refl
+      where
+        low : (o : Op) → k ≡ kindOf o → o ≡ PLAIN
+        low PLAIN h = refl
+        low ELSE h = absurd (omega arith)
+        low ENDIF h = absurd (omega arith)
+        low BGNLOOP h = absurd (omega arith)
+        low ENDLOOP h = absurd (omega arith)
+        low BRK h = absurd (omega arith)
+        low CONT h = absurd (omega arith)
+        low DEFAULT h = absurd (omega arith)
+        low ENDSWITCH h = absurd (omega arith)
+        low END h = absurd (omega arith)
+        low UIF h = absurd (omega arith)
+        low SWITCH h = absurd (omega arith)
+        low CASE h = absurd (omega arith)
 
     pub data-step : (d : Destination) (o : List (List ℕ)) (q l : List ℕ) → k < 0x71 → d ≡ destinationAt bytes 1 → o ≡ sourcesOf e r bytes
         → state q l ≡ effectOf (familyOf k) k d o (state r m) → stepped (At (n + 1)) q l ≡ here
@@ -148,12 +158,23 @@ module _ (e : Env) (file rows : List ℕ) (n : ℕ) (r m : List ℕ) where
         on : stepped (At (n + 1)) r m ≡ record { next = At (suc n); state = recordEffect e bytes (state r m) }
         on = cc (next-is, stays)
 
+        one : (o : Op) → k ≡ kindOf o → stepped (At (n + 1)) r m ≡ stepAs o
+        one ELSE h = absurd (w h)
+        one ENDIF h = on
+        one BGNLOOP h = on
+        one ENDLOOP h = absurd (rw h at no-jump)
+        one BRK h = absurd (rw h at no-jump)
+        one CONT h = absurd (rw h at no-jump)
+        one DEFAULT h = on
+        one ENDSWITCH h = on
+        one END h = absurd (x h)
+        one UIF h = absurd (y h)
+        one SWITCH h = absurd (z h)
+        one CASE h = on
+        one PLAIN h = on
+
         each : stepped (At (n + 1)) r m ≡ stepAs (opOf k)
-        each =
-            op-cases (λ o. stepped (At (n + 1)) r m ≡ stepAs o) k
-            (λ h. absurd (w h)) (λ h. on) (λ h. on) (λ h. absurd (rw h at no-jump)) (λ h. absurd (rw h at no-jump)) (λ h. absurd (rw h at no-jump))
-            (λ h. on) (λ h. on) (λ h. absurd (x h)) (λ h. absurd (y h)) (λ h. absurd (z h)) (λ h. on)
-            on
+        each = by-kind (λ o. stepped (At (n + 1)) r m ≡ stepAs o) k one on
 
     module _ (w : k ≡ 0x81 → ⊥) (x : k ≡ 0x89 → ⊥) (y : k ≡ 0x90 → ⊥) (z : k ≡ 0x91 → ⊥) where
       pub falls-below : k < 0x10 → stepped (At (n + 1)) r m ≡ here

@@ -12,7 +12,7 @@ use Rattle.format.specs.Fields.{caseWord}
 use Rattle.blocks.specs.Control.{Machine, CASE, DEFAULT, caseOf, defaultAt, is, opOf}
 use Rattle.blocks.specs.Table.{Row, placeIn, rowIn}
 use Rattle.blocks.specs.Run.{walk}
-use Rattle.blocks.proofs.Ops.{op-cases}
+use Rattle.blocks.proofs.Ops.{not-kind}
 use Rattle.effects.specs.Destinations.{State}
 use Rattle.machine.specs.Operands.{Env, wordIn}
 use Rattle.machine.specs.Step.{isCaseAt, labelsOf, machineOf}
@@ -20,19 +20,10 @@ use Rattle.machine.specs.Step.{isCaseAt, labelsOf, machineOf}
 -- ---- one label
 
 not-case : (k : ℕ) → (k ≡ 0x92 → ⊥) → is CASE (opOf k) ≡ false
-not-case k d =
-    op-cases (λ o. is CASE o ≡ false) k
-    (λ h. refl) (λ h. refl) (λ h. refl) (λ h. refl) (λ h. refl) (λ h. refl) (λ h. refl) (λ h. refl) (λ h. refl) (λ h. refl) (λ h. refl)
-    (λ h. absurd (d h))
-    refl
+not-case k d = not-kind CASE k refl d
 
 not-default : (k : ℕ) → (k ≡ 0x87 → ⊥) → is DEFAULT (opOf k) ≡ false
-not-default k d =
-    op-cases (λ o. is DEFAULT o ≡ false) k
-    (λ h. refl) (λ h. refl) (λ h. refl) (λ h. refl) (λ h. refl) (λ h. refl)
-    (λ h. absurd (d h))
-    (λ h. refl) (λ h. refl) (λ h. refl) (λ h. refl) (λ h. refl)
-    refl
+not-default k d = not-kind DEFAULT k refl d
 
 module _ (immediates file : List ℕ) (p b x m : ℕ) (eb : b ≡ getD file p 0) where
   module _ (w : ℕ) (case : b ≡ 0x92) (ew : w ≡ caseWord immediates file p) where
