@@ -1,8 +1,3 @@
-pub mod Stack
-pub mod Opening
-pub mod Search
-pub mod Trees
-pub mod Searched
 pub mod Records
 pub mod Keeping
 pub mod Taking

@@ -18,9 +18,10 @@ use Rattle.registers.specs.Sets.{isIn}
 use Rattle.registers.specs.Found.{operandsFound}
 use Rattle.checker.specs.Findings.{nothing, Finding, due, withInstruction, nested, instructionFinding}
 use Rattle.checker.specs.Check.{programSeen}
-use Rattle.checker.specs.Held.{Stacked, blocksOf, rulingOf, seen, findingOf, operandRefusal, instructed, takenBy, takenOf, Padded, SoundBlocks, Treed, Trees, Sound}
-use Rattle.checker.specs.declared.nesting.Blocks.{Blocks}
-use Rattle.checker.specs.declared.nesting.Nested.{Nested}
+use Rattle.nesting.specs.Held.{Stacked, blocksOf, rulingOf, SoundBlocks, Treed, Trees}
+use Rattle.checker.specs.Held.{seen, findingOf, operandRefusal, instructed, takenBy, takenOf, Padded, Sound}
+use Rattle.nesting.specs.declared.Blocks.{Blocks}
+use Rattle.nesting.specs.declared.Nested.{Nested}
 use Rattle.checker.specs.declared.program.Program.{Program}
 use Rattle.checker.specs.declared.walk.State.{State}
 use Rattle.checker.specs.declared.walk.Taken.{Taken}

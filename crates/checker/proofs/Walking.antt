@@ -18,7 +18,8 @@ use Rattle.registers.specs.Rules.{operandRules}
 use Rattle.registers.specs.Found.{operandsFound}
 use Rattle.checker.specs.Findings.{Seen, nothing, Finding, taken, due, nested, withInstruction, declarationFinding, immediateFinding, instructionFinding, recordFinding}
 use Rattle.checker.specs.Check.{Outcome, accepted, refused, onward, walk, checkOf, breaks, told, toldOf, programSeen, concluded, outcome, wordsAfter}
-use Rattle.checker.specs.Held.{blocksOf, Padded, seen, endOf, wayAfter, Tells, Turned}
+use Rattle.nesting.specs.Held.{blocksOf}
+use Rattle.checker.specs.Held.{Padded, seen, endOf, wayAfter, Tells, Turned}
 use Rattle.checker.specs.declared.Checked.{Checked}
 use Rattle.checker.specs.declared.Verdict.{Verdict}
 use Rattle.checker.specs.declared.Verdict.the-variants.{Accepted, Refused}

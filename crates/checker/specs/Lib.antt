@@ -1,4 +1,3 @@
 pub mod Findings
 pub mod Check
-pub mod Tree
 pub mod Held

@@ -4,9 +4,7 @@ ghost use mathlib.Core.Path.{_≡_};
 ghost use Prim.Native.Nat.{_≤_};
 ghost use Rattle.checker.specs.Check.{checkOf, told, toldOf, outcome, wordsAfter};
 
-mod nesting;
 pub mod program;
-mod tree;
 mod walk;
 
 // What is said of a file.

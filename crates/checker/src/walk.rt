@@ -1,11 +1,10 @@
 // The walk over the records: each is taken, or refused with the lowest number that applies.
 use crate::Checked;
 use crate::Verdict;
-use crate::nesting;
-use crate::nesting::Blocks;
-use crate::nesting::Nested;
 use crate::program;
 use crate::program::Program;
+use nesting::Blocks;
+use nesting::Nested;
 use registers::operands;
 use registers::sets;
 ghost use mathlib.Core.Path.{_≡_};
@@ -19,7 +18,8 @@ ghost use Rattle.blocks.specs.Nesting.{rule};
 ghost use Rattle.checker.specs.Findings.{nothing, nested, declarationFinding, immediateFinding, instructionFinding, recordFinding};
 ghost use Rattle.checker.specs.Check.{checkOf, told, toldOf, outcome};
 ghost use Rattle.checker.specs.declared.Verdict.the-variants.{Refused};
-ghost use Rattle.checker.specs.Held.{blocksOf, seen, findingOf, operandRefusal, takenOf, endOf, wayAfter, Turned, Sound, Padded, Trees};
+ghost use Rattle.nesting.specs.Held.{blocksOf, Trees};
+ghost use Rattle.checker.specs.Held.{seen, findingOf, operandRefusal, takenOf, endOf, wayAfter, Turned, Sound, Padded};
 
 // What the checker knows after some records.
 pub struct State {

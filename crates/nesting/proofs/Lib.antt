@@ -1,0 +1,5 @@
+pub mod Stack
+pub mod Opening
+pub mod Search
+pub mod Trees
+pub mod Searched
