@@ -6,7 +6,7 @@
 use mathlib.Core.Path.{_≡_, refl, sym, ap, _∙_, subst}
 use mathlib.Core.Bool.{Bool, true, false, cond, not}
 use mathlib.Core.Logic.{⊎-elim}
-use mathlib.Core.List.{List, [], _++_}
+use mathlib.Core.List.{List, []}
 use Prim.Native.Nat.{ℕ, zero, suc, _+_, _-_, _*_, _<_, _≤_}
 use native.Mathlib.Omega.{arith}
 use native.Mathlib.Numerals.{add-one}
@@ -20,7 +20,7 @@ use Rattle.format.proofs.Walk.{place-step}
 use Rattle.blocks.specs.Control.{Op, END, is, opOf}
 use Rattle.blocks.specs.Nesting.{accepts}
 use Rattle.blocks.proofs.Ops.{kind-is}
-use Rattle.registers.specs.Sets.{Registers, registersOf}
+use Rattle.registers.specs.Sets.{Registers}
 use Rattle.registers.specs.Rules.{operandRules, declarationRule}
 use Rattle.registers.specs.Found.{overlaps, operandsFound}
 use Rattle.registers.proofs.Named.{Inside, none-inside, more-inside}

@@ -9,12 +9,12 @@ use native.Mathlib.Nat.{max-eq-left, max-eq-right, min-eq-left, zero-add, suc-ad
 use lib.ListN.{length, set, take, drop, replicate, length-take, length-append}
 use lib.Seq.{sets, sets-eq, length-sets, drop-drop, drop-at, take-at}
 use borrow.Author.Tests.{eq-eqb, ne-eqb}
+use Rattle.format.specs.Files.{IN, CONST}
 use Rattle.format.specs.Records.{sizeAt}
 use Rattle.format.specs.Fields.{word32}
 use Rattle.format.specs.declared.fields.Declaration.{Declaration}
 use Rattle.blocks.specs.Nesting.{Open}
 use Rattle.registers.specs.Sets.{none, isIn, withRange}
-use Rattle.format.specs.Files.{IN, CONST}
 use Rattle.registers.specs.Rules.{declarationRule}
 use Rattle.registers.specs.declared.sets.Declared.{Declared}
 use Rattle.checker.specs.Findings.{nothing, reach, withDeclaration, immediateAt, withImmediate}

@@ -6,6 +6,7 @@ use mathlib.Core.List.{List, [], _∷_, _++_}
 use mathlib.Core.Bool.{cond, not}
 use lib.Dec.{eqb, leb, ltb}
 use lib.ListN.{length, getD}
+use Rattle.format.specs.Files.{CONST, IN}
 use Rattle.format.specs.Kinds.{lengthOf}
 use Rattle.format.specs.Records.{sizeAt}
 use Rattle.format.specs.Fields.{word32, declarationAt, caseWord}
@@ -14,7 +15,6 @@ use Rattle.blocks.specs.Control.{opOf}
 use Rattle.blocks.specs.Run.{mostInstructions}
 use Rattle.blocks.specs.Nesting.{Open, Ruling, goes, refused, rule}
 use Rattle.registers.specs.Sets.{Registers, none, withRange}
-use Rattle.format.specs.Files.{CONST, IN}
 use Rattle.registers.specs.Rules.{operandRules, declarationRule}
 use Rattle.registers.specs.Found.{overlaps, operandsFound}
 

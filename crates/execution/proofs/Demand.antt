@@ -1,7 +1,7 @@
 -- The run by right rows is the block reading: the two machines, one by the places in the words and one by those of the file, are
 -- alike on the program's instructions. So the reading of an accepted program ends or halts.
 -- Assumes nothing.
-use mathlib.Core.Path.{_≡_, refl, sym, ap, _∙_, subst}
+use mathlib.Core.Path.{_≡_, sym, ap, _∙_, subst}
 use mathlib.Core.Bool.{true}
 use mathlib.Core.List.{List, []}
 use Prim.Native.Nat.{ℕ, _<_, _≤_}
@@ -13,7 +13,7 @@ use Rattle.blocks.specs.Lists.{nestedLists}
 use Rattle.blocks.specs.Nesting.{accepts}
 use Rattle.blocks.specs.Prepared.{opFrom}
 use Rattle.blocks.specs.Reading.{halted}
-use Rattle.blocks.specs.Run.{mostInstructions, run}
+use Rattle.blocks.specs.Run.{mostInstructions}
 use Rattle.blocks.specs.Table.{rowAt, rowIn, placeIn, table}
 use Rattle.blocks.proofs.Correct.{Final, run-is-reading, run-by-table, run-final}
 use Rattle.blocks.proofs.Inside.{Stays, reading-stays}
@@ -27,7 +27,7 @@ use Rattle.machine.specs.Bank.{envIn}
 use Rattle.machine.specs.Operands.{Env}
 use Rattle.machine.specs.Step.{machineOf}
 use Rattle.execution.specs.declared.Stop.{Stop}
-use Rattle.execution.specs.Program.{placeOf, listsOf, envOf, programOf, cleared, carriedOut}
+use Rattle.execution.specs.Program.{placeOf, envOf, programOf, cleared, carriedOut}
 use Rattle.execution.specs.Steps.{Right, reached, byRows, StaysInside, Came, MayRun}
 
 module _ (s : Seen) (file : List ℕ) (ok : checkOf file ≡ accepted s) (inputs constants : List ℕ) where

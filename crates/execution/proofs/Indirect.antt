@@ -15,7 +15,7 @@ use Rattle.registers.specs.declared.sets.Declared.{Declared}
 use Rattle.registers.specs.Sets.{isIn}
 use Rattle.registers.specs.Sets as sets
 use Rattle.machine.specs.Bank.{envIn}
-use Rattle.machine.specs.Operands.{Env, bitIn, declaredIn, envWith, wordIn}
+use Rattle.machine.specs.Operands.{bitIn, declaredIn, envWith, wordIn}
 use Rattle.execution.specs.Program.{askedIndirectly}
 use Rattle.execution.proofs.Copies.{copy-end}
 

@@ -4,12 +4,12 @@
 use mathlib.Core.Path.{_≡_, refl, ap, _∙_, subst}
 use mathlib.Core.Bool.{Bool, true, false, cond, _&&_}
 use mathlib.Core.List.{List}
-use Prim.Native.Nat.{ℕ, suc, _+_, _-_, _*_, _<_, _≤_}
+use Prim.Native.Nat.{ℕ, _+_, _-_, _*_, _<_, _≤_}
 use native.Mathlib.Omega.{arith}
 use native.Mathlib.Nat.{add-zero}
 use borrow.Author.Tests.{eqb-true, eqb-false, leb-true}
 use lib.Dec.{T, eqb, eqb→eq, leb}
-use lib.ListN.{length, getD, set, drop, replicate, length-replicate}
+use lib.ListN.{length, getD, drop, replicate, length-replicate}
 use lib.Seq.{drop-at, drop-set-lt, getD-drop}
 use Rattle.words.specs.Word.{bit}
 use Rattle.format.specs.Fields.{word16, destinationAt}
@@ -26,7 +26,7 @@ use Rattle.checker.specs.Findings.{Seen}
 use Rattle.checker.proofs.Followed.{Followed, followed}
 use Rattle.effects.specs.Destinations.{State, firstWord, ifMasked, masked, placed, writtenAt}
 use Rattle.effects.specs.Effect.{Family, WORDS, WIDE-UNARY, LOAD, WIDE, STORE, ATOMIC, ATOMCAS, NONE, familyOf, effectOf}
-use Rattle.machine.specs.Operands.{Env, kindByte, sourcesOf}
+use Rattle.machine.specs.Operands.{kindByte, sourcesOf}
 use Rattle.machine.specs.Step.{recordEffect}
 use Rattle.execution.specs.Program.{placeOf, envOf, programOf, cleared, carriedOut}
 

@@ -1,20 +1,20 @@
 -- What the operands of an instruction name, where they keep the field rules and are found: a destination and a direct source name a
 -- register within its file, or one of the immediates. Each rule is one part of a conjunction.
 -- Assumes nothing.
-use mathlib.Core.Path.{_≡_, refl, sym, ap, _∙_}
+use mathlib.Core.Path.{_≡_, refl, sym, ap}
 use mathlib.Core.Bool.{Bool, true, false, cond, not, _&&_, _||_}
 use mathlib.Core.List.{List}
 use Prim.Native.Nat.{ℕ, zero, suc, _+_, _*_, _/_, _<_, _≤_}
 use native.Mathlib.Omega.{arith}
-use lib.Dec.{eqb, leb, ltb}
+use lib.Dec.{eqb, leb}
 use borrow.Author.Tests.{eqb-true, eq-eqb, ne-eqb, leb-true, ltb-true}
+use Rattle.format.specs.Files.{CONST, IN, TEMP, IMM, MEM}
 use Rattle.format.specs.Kinds.{destinations, sources, formOf, within}
 use Rattle.format.specs.Fields.{destinationAt, sourceAt}
 use Rattle.format.specs.declared.fields.Destination.{Destination}
 use Rattle.format.specs.declared.fields.Source.{Source}
 use Rattle.format.specs.declared.fields.Declaration.{Declaration}
 use Rattle.registers.specs.Sets.{Registers, none, withRange, registersOf}
-use Rattle.format.specs.Files.{CONST, IN, TEMP, IMM, MEM}
 use Rattle.registers.specs.Rules.{memoryKind, mayNegate, negated, indirect, destinationRule, sourceRule, allSources, allOperands, operandRules, declarationRule, CASE}
 use Rattle.registers.specs.Found.{destinationFound, sourceFound, operandsFound}
 use Rattle.registers.proofs.Choices.{never}

@@ -4,13 +4,13 @@ use Prim.Native.Nat.{ℕ, zero, suc, _+_, _*_, _/_, _%_}
 use mathlib.Core.List.{List}
 use mathlib.Core.Bool.{Bool, true, cond, not, _&&_, _||_}
 use lib.Dec.{eqb, leb, ltb}
+use Rattle.format.specs.Files.{CONST, IN, OUT, TEMP, ADDR, IMM, MEM}
 use Rattle.format.specs.Kinds.{destinations, sources, formOf, within}
 use Rattle.format.specs.Fields.{destinationAt, sourceAt}
 use Rattle.format.specs.declared.fields.Destination.{Destination}
 use Rattle.format.specs.declared.fields.Source.{Source}
 use Rattle.format.specs.declared.fields.Declaration.{Declaration}
 use Rattle.registers.specs.Sets.{registersOf}
-use Rattle.format.specs.Files.{CONST, IN, OUT, TEMP, ADDR, IMM, MEM}
 
 -- ---- Kinds that a rule names
 

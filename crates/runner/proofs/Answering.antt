@@ -8,7 +8,6 @@ use borrow.Author.Tests.{lt-ltb, le-ltb, le-leb}
 use lib.ListN.{length, take}
 use Rattle.format.specs.Records.{longest}
 use Rattle.blocks.specs.Prepared.{filled}
-use Rattle.blocks.specs.Reading.{Reading}
 use Rattle.blocks.specs.Run.{mostInstructions}
 use Rattle.blocks.specs.Table.{rowWords}
 use Rattle.registers.specs.Sets.{isIn}
@@ -21,13 +20,12 @@ use Rattle.checker.proofs.Followed.{followed}
 use Rattle.effects.specs.Destinations.{State}
 use Rattle.effects.specs.Effect.{state}
 use Rattle.machine.specs.Bank.{envIn}
-use Rattle.machine.specs.Operands.{envWith, wordIn}
-use Rattle.admission.specs.declared.Sizes.{Sizes}
-use Rattle.admission.specs.Admission.{workShort, admissionOf}
+use Rattle.machine.specs.Operands.{envWith}
+use Rattle.admission.specs.Admission.{admissionOf}
 use Rattle.admission.proofs.Admitting.{Admitted, admitted-is, lent-enough}
 use Rattle.execution.specs.declared.Report.{Report}
 use Rattle.execution.specs.declared.Stop.{Stop}
-use Rattle.execution.specs.Program.{askedIndirectly, envOf, cleared, carriedOut}
+use Rattle.execution.specs.Program.{askedIndirectly, envOf, cleared}
 use Rattle.execution.specs.Steps.{reached, Right, Came, MayRun}
 use Rattle.execution.proofs.Demand.{right-runs, came-out}
 use Rattle.execution.proofs.Indirect.{padded-words}
