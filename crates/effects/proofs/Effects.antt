@@ -1,7 +1,7 @@
 -- Effects: what is written is the result of the kind's family.
 -- Assumes nothing.
 use Rattle.effects.specs.Effect.{Family, WORDS, WIDE-UNARY, LOAD, WIDE, STORE, ATOMIC, ATOMCAS, NONE, effectOf, exchange, familyOf, result, state, xOf}
-use Rattle.effects.specs.Destinations.{State, components, firstWord, writtenAt}
+use Rattle.effects.specs.Destinations.{State, components, firstWord, masked, placed}
 use Rattle.words.specs.Word.{cas}
 use Rattle.effects.specs.Arithmetic.{atomic, wideOf, wideUnaryOf}
 use Rattle.effects.specs.Memory.{loaded, loadedFrom, stored, storedFrom}
@@ -16,26 +16,26 @@ use Rattle.format.specs.declared.fields.Destination.{Destination}
 
 -- what is written to the register of the destination
 module _ (d : Destination) (r m l : List ℕ) (first : ℕ) (ef : first ≡ firstWord d) where
-  pub words-are : (v : List ℕ) → l ≡ writtenAt r first (d .mask) v → state l m ≡ result d (state r m) v
+  pub words-are : (v : List ℕ) → l ≡ masked (d .mask) (placed first v) r → state l m ≡ result d (state r m) v
   words-are v h = cc
 
-  pub wide-unary-to : (k : ℕ) (a x v : List ℕ) → a ≡ x → v ≡ wideUnaryOf k a → l ≡ writtenAt r first (d .mask) v → state l m ≡ result d (state r m) (wideUnaryOf k x)
+  pub wide-unary-to : (k : ℕ) (a x v : List ℕ) → a ≡ x → v ≡ wideUnaryOf k a → l ≡ masked (d .mask) (placed first v) r → state l m ≡ result d (state r m) (wideUnaryOf k x)
   wide-unary-to k a x v ea ev h = cc
 
-  pub wide-to : (k : ℕ) (a b x y v : List ℕ) → a ≡ x → b ≡ y → v ≡ wideOf k a b → l ≡ writtenAt r first (d .mask) v → state l m ≡ result d (state r m) (wideOf k x y)
+  pub wide-to : (k : ℕ) (a b x y v : List ℕ) → a ≡ x → b ≡ y → v ≡ wideOf k a b → l ≡ masked (d .mask) (placed first v) r → state l m ≡ result d (state r m) (wideOf k x y)
   wide-to k a b x y v ea eb ev h = cc
 
-  pub loaded-to : (a x : ℕ) (v : List ℕ) → a ≡ x → v ≡ loadedFrom m a → l ≡ writtenAt r first (d .mask) v → state l m ≡ result d (state r m) (loadedFrom m x)
+  pub loaded-to : (a x : ℕ) (v : List ℕ) → a ≡ x → v ≡ loadedFrom m a → l ≡ masked (d .mask) (placed first v) r → state l m ≡ result d (state r m) (loadedFrom m x)
   loaded-to a x v ea ev h = cc
 
   exchange-is : (a : ℕ) (f : ℕ → ℕ) (old : ℕ) (q : List ℕ)
-      → old ≡ loaded m a → q ≡ stored m a (f old) → l ≡ writtenAt r first (d .mask) (old ∷ old ∷ old ∷ old ∷ []) → state l q ≡ exchange d (state r m) a f
+      → old ≡ loaded m a → q ≡ stored m a (f old) → l ≡ masked (d .mask) (placed first (old ∷ old ∷ old ∷ old ∷ [])) r → state l q ≡ exchange d (state r m) a f
   unfolding components
   exchange-is a f old q eo eq el = cc
 
   -- an atomic of kind k, or ATOMCAS, on the x of the sources
   module _ (k : ℕ) (o : List (List ℕ)) (a b old : ℕ) (q : List ℕ) (ea : a ≡ xOf o 0) (eb : b ≡ xOf o 1) (eo : old ≡ loaded m a)
-      (el : l ≡ writtenAt r first (d .mask) (old ∷ old ∷ old ∷ old ∷ []))
+      (el : l ≡ masked (d .mask) (placed first (old ∷ old ∷ old ∷ old ∷ [])) r)
     where
       pub atomic-with : q ≡ stored m a (atomic k old b) → state l q ≡ effectOf ATOMIC k d o (state r m)
       atomic-with h = rw (← ea, ← eb) (exchange-is a (λ w. atomic k w b) old q eo h el)

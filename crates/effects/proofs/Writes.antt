@@ -1,6 +1,6 @@
 -- Results written to the components of a mask, in registers and in memory.
 -- Assumes nothing.
-use Rattle.effects.specs.Destinations.{components, firstWord, ifMasked, masked, placed, writtenAt}
+use Rattle.effects.specs.Destinations.{components, firstWord, ifMasked, masked, placed}
 use Rattle.effects.specs.Memory.{loaded, loadedFrom, stored, storedFrom}
 use Rattle.effects.specs.Arithmetic.{sourceWord, resultWord, resultWords}
 use Rattle.words.specs.Word.{bit}
@@ -11,7 +11,7 @@ use mathlib.Core.List.{List, [], _∷_}
 use native.Mathlib.Omega.{arith}
 use native.Mathlib.Numerals.{add-one}
 use native.Mathlib.Nat.{add-zero}
-use borrow.Author.Tests.{le-leb, lt-leb, ne-eqb}
+use borrow.Author.Tests.{ne-eqb}
 use lib.Dec.{eqb}
 use lib.ListN.{getD, length, length-set, set}
 use lib.Seq.{set-out}
@@ -42,25 +42,14 @@ module _ (d : Destination) where
   unfolding firstWord
   first-addr a b = simp (ne-eqb (d .file) 3 a, ne-eqb (d .file) 4 b)
 
-module _ (first mask : ℕ) (v r : List ℕ) where
-  pub not-written : length r < first + 4 → r ≡ writtenAt r first mask v
-  unfolding writtenAt
-  not-written h = rw (lt-leb (first + 4) (length r) h)
-
-  pub all-written : (l : List ℕ) → first + 4 ≤ length r → l ≡ masked mask (placed first v) r → l ≡ writtenAt r first mask v
-  unfolding writtenAt
-  all-written l h e = rw (le-leb (first + 4) (length r) h) e
-
-pub written-is : (first mask : ℕ) (v l x y z w : List ℕ) → first + 4 ≤ length l
+pub written-is : (first mask : ℕ) (v l x y z w : List ℕ)
     → x ≡ ifMasked mask 0 (λ i l. set l (first + i) (getD v 0 0)) l
     → y ≡ ifMasked mask 1 (λ i l. set l (first + i) (getD v 1 0)) x
     → z ≡ ifMasked mask 2 (λ i l. set l (first + i) (getD v 2 0)) y
     → w ≡ ifMasked mask 3 (λ i l. set l (first + i) (getD v 3 0)) z
-    → w ≡ writtenAt l first mask v
+    → w ≡ masked mask (placed first v) l
 unfolding masked ifMasked
-written-is first mask v l x y z w h ex ey ez ew =
-    let all : w ≡ masked mask (placed first v) l = cc in
-    all-written first mask v l w h all
+written-is first mask v l x y z w ex ey ez ew = cc
 
 -- ---- results on words: after the components below i, those from i on are as they were
 
@@ -84,14 +73,11 @@ module _ (first mask : ℕ) (v r : List ℕ) where
   pub word-lengths : (i : ℕ) (l : List ℕ) → l ≡ writtenTo i → length l ≡ length r
   word-lengths i l el = ap length el ∙ as-long i
 
-  pub room : (i : ℕ) (l : List ℕ) → l ≡ writtenTo i → first + 4 ≤ length r → first + 4 ≤ length l
-  room i l el h = omega (arith, word-lengths i l el)
-
-  pub words-written : (i : ℕ) (l : List ℕ) → l ≡ writtenTo i → i ≤ 4 → 4 ≤ i → first + 4 ≤ length r → l ≡ writtenAt r first mask v
+  pub words-written : (i : ℕ) (l : List ℕ) → l ≡ writtenTo i → i ≤ 4 → 4 ≤ i → l ≡ masked mask (placed first v) r
   unfolding masked
-  words-written i l el a b h =
+  words-written i l el a b =
       let all : i ≡ 4 = omega arith in
-      all-written first mask v r l h (el ∙ ap writtenTo all)
+      el ∙ ap writtenTo all
 
 -- component i of a result on words
 word-is : (k : ℕ) (o : List (List ℕ)) (i w : ℕ) → i < 4 → w ≡ resultWord k (sourceWord o 0 i) (sourceWord o 1 i) (sourceWord o 2 i) (sourceWord o 3 i) → w ≡ getD (resultWords k o) i 0
@@ -102,12 +88,13 @@ word-is k o (suc (suc zero)) w h e = e
 word-is k o (suc (suc (suc zero))) w h e = e
 word-is k o (suc (suc (suc (suc i)))) w h e = absurd (omega arith)
 
-pub word-placed : (first mask k : ℕ) (o : List (List ℕ)) (r : List ℕ) (i p q x y w : ℕ) (t : Bool) → t ≡ eqb (bit mask i) 1 → t ≡ true → i < 4
+pub word-placed : (first mask k : ℕ) (o : List (List ℕ)) (r l : List ℕ) (i p q x y w : ℕ) (t : Bool) → t ≡ eqb (bit mask i) 1 → t ≡ true → i < 4
     → p ≡ sourceWord o 0 i → q ≡ sourceWord o 1 i → x ≡ sourceWord o 2 i → y ≡ sourceWord o 3 i → w ≡ resultWord k p q x y
-    → set r (first + i) w ≡ ifMasked mask i (placed first (resultWords k o)) r
+    → l ≡ set r (first + i) w
+    → l ≡ ifMasked mask i (placed first (resultWords k o)) r
 unfolding ifMasked
-word-placed first mask k o r i p q x y w t et h b ep eq ex ey ew =
-    rw (← et, h) (ap (set r (first + i)) (word-is k o i w b (rw (← ep, ← eq, ← ex, ← ey) ew)))
+word-placed first mask k o r l i p q x y w t et h b ep eq ex ey ew el =
+    rw (← et, h) (el ∙ ap (set r (first + i)) (word-is k o i w b (rw (← ep, ← eq, ← ex, ← ey) ew)))
 
 -- ---- memory
 

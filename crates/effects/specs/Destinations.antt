@@ -3,8 +3,8 @@
 use Prim.Native.Nat.{ℕ, _+_, _*_}
 use mathlib.Core.Bool.{cond}
 use mathlib.Core.List.{List, [], _∷_}
-use lib.Dec.{leb, eqb}
-use lib.ListN.{getD, set, length}
+use lib.Dec.{eqb}
+use lib.ListN.{getD, set}
 use Rattle.words.specs.Word.{bit}
 use Rattle.format.specs.Files.{OUT, TEMP, tempFrom, addrFrom}
 use Rattle.format.specs.declared.fields.Destination.{Destination}
@@ -30,8 +30,8 @@ ifMasked mask i put l = cond (eqb (bit mask i) 1) (put i l) l
 unfoldable pub masked : ℕ → (ℕ → List ℕ → List ℕ) → List ℕ → List ℕ
 masked mask put l = ifMasked mask 3 put (ifMasked mask 2 put (ifMasked mask 1 put (ifMasked mask 0 put l)))
 
--- "OUT i from word 4i, TEMP i from 128+4i, ADDR from 1152" (01, Register files). "Destination OUT or TEMP; UARL only ADDR":
--- files 3 and 4, and 5.
+-- "OUT i from word 4i, TEMP i from 128+4i, ADDR from 1152" (01, Register files). "Destination OUT or TEMP; UARL only ADDR": what is
+-- neither OUT nor TEMP is ADDR (checker's law `Accepted.destination-register`).
 unfoldable pub firstWord : Destination → ℕ
 firstWord d = cond (eqb (d .file) OUT) (4 * d .index) (cond (eqb (d .file) TEMP) (tempFrom + 4 * d .index) addrFrom)
 
@@ -39,9 +39,6 @@ firstWord d = cond (eqb (d .file) OUT) (4 * d .index) (cond (eqb (d .file) TEMP)
 abbrev pub placed : ℕ → List ℕ → ℕ → List ℕ → List ℕ
 placed first v i r = set r (first + i) (getD v i 0)
 
--- The registers after a result of four words; a register whose words are not all there, which no run writes, is left.
-unfoldable pub writtenAt : List ℕ → ℕ → ℕ → List ℕ → List ℕ
-writtenAt r first mask v = cond (leb (first + 4) (length r)) (masked mask (placed first v) r) r
-
+-- The registers after a result of four words.
 abbrev pub written : List ℕ → Destination → List ℕ → List ℕ
-written r d v = writtenAt r (firstWord d) (d .mask) v
+written r d v = masked (d .mask) (placed (firstWord d) v) r

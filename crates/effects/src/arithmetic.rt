@@ -1,5 +1,6 @@
 // Results on words, component by component. Each family is a match over its kinds, in document 01's order.
 use crate::destinations::is_masked;
+use crate::lent::set_word;
 use crate::sources::source_word;
 use words::bits::and32;
 use words::bits::brev32;
@@ -36,9 +37,8 @@ use words::sums::ssg32;
 use words::sums::umad32;
 use words::sums::umulhi32;
 ghost use mathlib.Core.Path.{_≡_};
-ghost use Prim.Native.Nat.{_+_, _<_, _≤_};
-ghost use lib.ListN.{length};
-ghost use Rattle.effects.specs.Destinations.{ifMasked, placed, writtenAt};
+ghost use Prim.Native.Nat.{_<_, _≤_};
+ghost use Rattle.effects.specs.Destinations.{ifMasked, masked, placed};
 ghost use Rattle.effects.specs.Arithmetic.{atomic, resultWord, resultWords};
 
 // A result on words, from one component of each source: the table of kinds, in its order.
@@ -92,7 +92,7 @@ fn word(kind: u8, a: u32, b: u32, c: u32, d: u32) -> u32
 
 // Writes component i of a result on words; one that the mask does not have is left.
 fn put_word(registers: &mut [u32], first: u32, mask: u8, kind: u8, sources: &[[u32; 4]; 4], i: u8)
-    requires { ⌜ (i < 4) × (first + 4 ≤ length (now registers)) ⌝ }
+    requires { ⌜ i < 4 ⌝ }
     ensures { λ _. ⌜ now (registers .exit) ≡ ifMasked mask i (placed first (resultWords kind (now (sources .entry)))) (now (registers .entry)) ⌝ }
 {
     if is_masked(mask, i) {
@@ -104,16 +104,13 @@ fn put_word(registers: &mut [u32], first: u32, mask: u8, kind: u8, sources: &[[u
             source_word(sources, 2, k),
             source_word(sources, 3, k),
         );
-        registers[first as usize + k] = w;
+        set_word(registers, first as usize + k, w);
     }
 }
 
 pub fn write_words(registers: &mut [u32], first: u32, mask: u8, kind: u8, sources: &[[u32; 4]; 4])
-    ensures { λ _. ⌜ now (registers .exit) ≡ writtenAt (now (registers .entry)) first mask (resultWords kind (now (sources .entry))) ⌝ }
+    ensures { λ _. ⌜ now (registers .exit) ≡ masked mask (placed first (resultWords kind (now (sources .entry)))) (now (registers .entry)) ⌝ }
 {
-    if registers.len() < first as usize + 4 {
-        return;
-    }
     let mut i: u8 = 0;
     while i < 4 {
         put_word(registers, first, mask, kind, sources, i);

@@ -6,7 +6,7 @@ ghost use Prim.Native.Nat.{_+_, _<_};
 ghost use lib.Dec.{eqb};
 ghost use lib.ListN.{set};
 ghost use Rattle.words.specs.Word.{bit};
-ghost use Rattle.effects.specs.Destinations.{ifMasked, firstWord, writtenAt};
+ghost use Rattle.effects.specs.Destinations.{ifMasked, masked, firstWord, placed};
 
 // Whether a mask has component i.
 pub fn is_masked(mask: u8, i: u8) -> bool
@@ -38,11 +38,8 @@ pub fn first_word(d: Destination) -> u32
 
 // A result written to the components that a mask has, in the register whose words begin at `first`.
 pub fn write(registers: &mut [u32], first: u32, mask: u8, v: [u32; 4])
-    ensures { λ r. ⌜ now (registers .exit) ≡ writtenAt (now (registers .entry)) first mask v ⌝ }
+    ensures { λ r. ⌜ now (registers .exit) ≡ masked mask (placed first v) (now (registers .entry)) ⌝ }
 {
-    if registers.len() < first as usize + 4 {
-        return;
-    }
     put(registers, mask, 0, first, v[0]);
     put(registers, mask, 1, first, v[1]);
     put(registers, mask, 2, first, v[2]);

@@ -236,7 +236,7 @@ module _ (immediates inputs constants bits b₁ b₂ b₃ b₄ : List ℕ)
         laid-held p₃ l₃ 5248 d (omega (arith, ld)) 40
         (kept-after p₂ l₂ 4224 m (omega (arith, lm)) 5248 40 [] (omega (arith, lm)) (past-inputs 5248 40 (omega arith) (omega arith)))
 
-    env-is : envIn p₄ ≡ envWith (declaredIn d) m inputs constants
+    env-is : envIn p₄ ≡ envWith (declaredIn d) m i c
     env-is =
         rw (
           part-is p₄ 0 4096 c lc constants-held,
@@ -251,8 +251,8 @@ module _ (immediates inputs constants bits b₁ b₂ b₃ b₄ : List ℕ)
         ∙ ap (λ (b : List ℕ). laid b 5248 d)
         (e₃ ∙ ap (λ (b : List ℕ). laid b 4224 m) (e₂ ∙ ap (λ (b : List ℕ). laid b 4096 i) e₁))
 
-    pub gathered : length bits ≡ 40 → length immediates ≡ 1024 → envIn b₄ ≡ envWith (declaredIn bits) immediates inputs constants
+    pub gathered : length bits ≡ 40 → length immediates ≡ 1024 → envIn b₄ ≡ envWith (declaredIn bits) immediates (take 128 inputs) (take 4096 constants)
     gathered lb li =
         ap envIn all-laid ∙ env-is
-        ∙ ap (λ (q : List ℕ). envWith (declaredIn q) m inputs constants) (take-all 40 bits (omega arith))
-        ∙ ap (λ (q : List ℕ). envWith (declaredIn bits) q inputs constants) (take-all 1024 immediates (omega arith))
+        ∙ ap (λ (q : List ℕ). envWith (declaredIn q) m i c) (take-all 40 bits (omega arith))
+        ∙ ap (λ (q : List ℕ). envWith (declaredIn bits) q i c) (take-all 1024 immediates (omega arith))

@@ -1,7 +1,7 @@
 -- Sources: a register number with its address, the words of each file, and the four components.
 -- Assumes nothing.
 use Rattle.machine.specs.Bank.{envIn, part}
-use Rattle.machine.specs.Operands.{Env, bitIn, declaredIn, firstSource, fourAt, fourOf, ifDeclared, negated, nthSource, readAt, registerOf, registerWords, selected, sourceOf, sourcesOf, taken, wordIn}
+use Rattle.machine.specs.Operands.{Env, bitIn, declaredIn, firstSource, fourFrom, ifDeclared, negated, nthSource, registerOf, registerWords, selected, sourceOf, sourcesOf, taken, wordIn}
 use Rattle.effects.specs.Destinations.{components, zeros}
 use Rattle.words.specs.Word.{neg, signed}
 use Rattle.format.specs.Kinds.{formOf, sources}
@@ -12,10 +12,10 @@ use mathlib.Core.Path.{_∙_, _≡_, ap, refl, sym}
 use mathlib.Core.Bool.{Bool, cond, false, true}
 use mathlib.Core.List.{List, [], _∷_}
 use native.Mathlib.Omega.{arith}
-use native.Mathlib.Nat.{mod-lt}
-use borrow.Author.Tests.{le-leb, le-ltb, leb-false, lt-leb, lt-ltb, ne-eqb}
+use native.Mathlib.Nat.{add-zero, mod-lt}
+use borrow.Author.Tests.{le-ltb, lt-ltb, ne-eqb}
 use lib.Dec.{eqb, leb, leb→le, ltb}
-use lib.ListN.{List·getD-eq-default, drop, drop-of-length-le, getD, length, length-drop, set, take}
+use lib.ListN.{drop, drop-of-length-le, getD, length, length-drop, set, take}
 use lib.Seq.{take-all}
 use lib.IntN.{_+ℤ_, pos, subℕ}
 use Rattle.format.specs.declared.fields.Source.{Source}
@@ -115,18 +115,25 @@ none-taken : (s : Source) → zeros ≡ taken zeros s
 unfolding taken components
 none-taken s = sym (simp (zero-word, zero-negated))
 
-pub pick-past : (l : List ℕ) (first : ℕ) (s : Source) → length l < first + 4 → zeros ≡ taken (fourAt l first) s
-unfolding fourAt
-pick-past l first s h = rw (lt-leb (first + 4) (length l) h) (none-taken s)
+-- word i of four
+four-word : (word : ℕ → ℕ) (first i : ℕ) → i < 4 → word (first + i) ≡ wordIn (fourFrom word first) i
+unfolding components
+four-word word first zero b = refl
+four-word word first (suc zero) b = refl
+four-word word first (suc (suc zero)) b = refl
+four-word word first (suc (suc (suc zero))) b = refl
+four-word word first (suc (suc (suc (suc i)))) b = absurd (omega arith)
 
--- word i of four that are there
-four-word : (l : List ℕ) (first i : ℕ) → first + 4 ≤ length l → i < 4 → wordIn l (first + i) ≡ wordIn (fourAt l first) i
-unfolding fourAt components
-four-word l first zero h b = rw (le-leb (first + 4) (length l) h)
-four-word l first (suc zero) h b = rw (le-leb (first + 4) (length l) h)
-four-word l first (suc (suc zero)) h b = rw (le-leb (first + 4) (length l) h)
-four-word l first (suc (suc (suc zero))) h b = rw (le-leb (first + 4) (length l) h)
-four-word l first (suc (suc (suc (suc i)))) h b = absurd (omega arith)
+pub four-words : (l : List ℕ) (first x y z w : ℕ) → x ≡ wordIn l first → y ≡ wordIn l (first + 1) → z ≡ wordIn l (first + 2) → w ≡ wordIn l (first + 3)
+    → x ∷ y ∷ z ∷ w ∷ [] ≡ fourFrom (wordIn l) first
+unfolding components
+four-words l first x y z w ex ey ez ew = cc (add-zero first)
+
+-- Four words that were read one by one are picked from as they stand.
+pub pick-apart : (l four v : List ℕ) (first : ℕ) (s : Source) → four ≡ fourFrom (wordIn l) first → v ≡ taken (fourFrom (wordIn four) 0) s
+    → v ≡ taken (fourFrom (wordIn l) first) s
+unfolding components
+pick-apart l four v first s ef ev = ev ∙ ap (λ (q : List ℕ). taken (fourFrom (wordIn q) 0) s) ef
 
 pub selected-below : (swizzle i k : ℕ) → k ≡ selected swizzle i → k < 4
 selected-below swizzle i k e = rw e (mod-lt (swizzle / 2 ^ (2 * i)) (omega arith))
@@ -147,52 +154,38 @@ module _ (l : List ℕ) (s : Source) (i j k m : ℕ) (ei : i ≡ selected (s .sw
 pub word-there : (l : List ℕ) (first swizzle i k : ℕ) → first + 4 ≤ length l → k ≡ selected swizzle i → first + k < length l
 word-there l first swizzle i k there e = omega (arith, selected-below swizzle i k e)
 
-module _ (l : List ℕ) (first : ℕ) (s : Source) (i j k m : ℕ) (there : first + 4 ≤ length l)
+module _ (l : List ℕ) (first : ℕ) (s : Source) (i j k m : ℕ)
     (ei : i ≡ selected (s .swizzle) 0) (ej : j ≡ selected (s .swizzle) 1) (ek : k ≡ selected (s .swizzle) 2) (em : m ≡ selected (s .swizzle) 3)
   where
-    word : (c n : ℕ) → n ≡ selected (s .swizzle) c → wordIn l (first + n) ≡ wordIn (fourAt l first) n
-    word c n e = four-word l first n there (selected-below (s .swizzle) c n e)
+    word : (c n : ℕ) → n ≡ selected (s .swizzle) c → wordIn l (first + n) ≡ wordIn (fourFrom (wordIn l) first) n
+    word c n e = four-word (wordIn l) first n (selected-below (s .swizzle) c n e)
 
-    pub pick-plain : (s .modifier % 2 ≡ 1 → ⊥) → wordIn l (first + i) ∷ wordIn l (first + j) ∷ wordIn l (first + k) ∷ wordIn l (first + m) ∷ [] ≡ taken (fourAt l first) s
-    pick-plain h = rw (word 0 i ei, word 1 j ej, word 2 k ek, word 3 m em) (taken-plain (fourAt l first) s i j k m ei ej ek em h)
+    pub pick-plain : (s .modifier % 2 ≡ 1 → ⊥) → wordIn l (first + i) ∷ wordIn l (first + j) ∷ wordIn l (first + k) ∷ wordIn l (first + m) ∷ [] ≡ taken (fourFrom (wordIn l) first) s
+    pick-plain h = rw (word 0 i ei, word 1 j ej, word 2 k ek, word 3 m em) (taken-plain (fourFrom (wordIn l) first) s i j k m ei ej ek em h)
 
     pub pick-negated : (x y z w : ℕ) → s .modifier % 2 ≡ 1 → x ≡ neg 32 (wordIn l (first + i)) → y ≡ neg 32 (wordIn l (first + j)) → z ≡ neg 32 (wordIn l (first + k)) → w ≡ neg 32 (wordIn l (first + m))
-        → x ∷ y ∷ z ∷ w ∷ [] ≡ taken (fourAt l first) s
+        → x ∷ y ∷ z ∷ w ∷ [] ≡ taken (fourFrom (wordIn l) first) s
     pick-negated x y z w h ex ey ez ew =
-        taken-negated (fourAt l first) s i j k m ei ej ek em x y z w h
+        taken-negated (fourFrom (wordIn l) first) s i j k m ei ej ek em x y z w h
         (ex ∙ ap (neg 32) (word 0 i ei)) (ey ∙ ap (neg 32) (word 1 j ej)) (ez ∙ ap (neg 32) (word 2 k ek)) (ew ∙ ap (neg 32) (word 3 m em))
 
 -- ---- the register of each file
 
--- of m whole registers, one that is not there has no word of its four
-four-whole : (l : List ℕ) (m n : ℕ) → length l ≡ 4 * m → fourAt l (4 * n) ≡ fourOf (wordIn l) n
-unfolding fourAt components
-four-whole l m n long = on (leb (4 * n + 4) (length l)) refl
-  where
-    none : length l ≤ 4 * n → (i : ℕ) → 0 ≡ wordIn l (4 * n + i)
-    none past i = sym (List·getD-eq-default l 0 (omega arith))
-
-    on : (t : Bool) → leb (4 * n + 4) (length l) ≡ t → cond t (components (λ i. wordIn l (4 * n + i))) zeros ≡ components (λ i. wordIn l (4 * n + i))
-    on true h = refl
-    on false h =
-        let past : length l ≤ 4 * n = omega (arith, leb-false (4 * n + 4) (length l) h) in
-        cc (none past 0, none past 1, none past 2, none past 3)
-
 module _ (bank r : List ℕ) (f n : ℕ) (l : List ℕ) where
-  const-words : f ≡ 1 → l ≡ part bank 0 4096 → length l ≡ 4096 → fourAt l (4 * n) ≡ registerWords (envIn bank) r f n
+  const-words : f ≡ 1 → l ≡ part bank 0 4096 → fourFrom (wordIn l) (4 * n) ≡ registerWords (envIn bank) r f n
   unfolding registerWords
-  const-words h el long = rw (h, ← el) (four-whole l 1024 n long)
+  const-words h el = rw (h, ← el)
 
-  in-words : f ≡ 2 → l ≡ part bank 4096 128 → length l ≡ 128 → fourAt l (4 * n) ≡ registerWords (envIn bank) r f n
+  in-words : f ≡ 2 → l ≡ part bank 4096 128 → fourFrom (wordIn l) (4 * n) ≡ registerWords (envIn bank) r f n
   unfolding registerWords
-  in-words h el long = rw (h, ← el) (four-whole l 32 n long)
+  in-words h el = rw (h, ← el)
 
-  imm-words : f ≡ 6 → l ≡ part bank 4224 1024 → length l ≡ 1024 → fourAt l (4 * n) ≡ registerWords (envIn bank) r f n
+  imm-words : f ≡ 6 → l ≡ part bank 4224 1024 → fourFrom (wordIn l) (4 * n) ≡ registerWords (envIn bank) r f n
   unfolding registerWords
-  imm-words h el long = rw (h, ← el) (four-whole l 256 n long)
+  imm-words h el = rw (h, ← el)
 
 module _ (e : Env) (r : List ℕ) (f n : ℕ) where
-  temp-words : f ≡ 4 → fourAt r (128 + 4 * n) ≡ registerWords e r f n
+  temp-words : f ≡ 4 → fourFrom (wordIn r) (128 + 4 * n) ≡ registerWords e r f n
   unfolding registerWords
   temp-words h = rw h
 
@@ -201,21 +194,21 @@ module _ (e : Env) (r : List ℕ) (f n : ℕ) where
   no-words a b c d = simp (ne-eqb f 1 a, ne-eqb f 2 b, ne-eqb f 4 c, ne-eqb f 6 d)
 
 -- what a source takes of them
-module _ (bank r : List ℕ) (s : Source) (n : ℕ) (l v : List ℕ) (ev : v ≡ taken (fourAt l (4 * n)) s) where
+module _ (bank r : List ℕ) (s : Source) (n : ℕ) (l v : List ℕ) (ev : v ≡ taken (fourFrom (wordIn l) (4 * n)) s) where
   abbrev from-register : List ℕ
   from-register = taken (registerWords (envIn bank) r (s .file) n) s
 
-  pub register-const : s .file ≡ 1 → l ≡ part bank 0 4096 → length l ≡ 4096 → v ≡ from-register
-  register-const h el long = ev ∙ ap (λ (q : List ℕ). taken q s) (const-words bank r (s .file) n l h el long)
+  pub register-const : s .file ≡ 1 → l ≡ part bank 0 4096 → v ≡ from-register
+  register-const h el = ev ∙ ap (λ (q : List ℕ). taken q s) (const-words bank r (s .file) n l h el)
 
-  pub register-in : s .file ≡ 2 → l ≡ part bank 4096 128 → length l ≡ 128 → v ≡ from-register
-  register-in h el long = ev ∙ ap (λ (q : List ℕ). taken q s) (in-words bank r (s .file) n l h el long)
+  pub register-in : s .file ≡ 2 → l ≡ part bank 4096 128 → v ≡ from-register
+  register-in h el = ev ∙ ap (λ (q : List ℕ). taken q s) (in-words bank r (s .file) n l h el)
 
-  pub register-imm : s .file ≡ 6 → l ≡ part bank 4224 1024 → length l ≡ 1024 → v ≡ from-register
-  register-imm h el long = ev ∙ ap (λ (q : List ℕ). taken q s) (imm-words bank r (s .file) n l h el long)
+  pub register-imm : s .file ≡ 6 → l ≡ part bank 4224 1024 → v ≡ from-register
+  register-imm h el = ev ∙ ap (λ (q : List ℕ). taken q s) (imm-words bank r (s .file) n l h el)
 
 module _ (e : Env) (r : List ℕ) (s : Source) (n : ℕ) where
-  pub register-temp : (v : List ℕ) → s .file ≡ 4 → v ≡ taken (fourAt r (128 + 4 * n)) s → v ≡ taken (registerWords e r (s .file) n) s
+  pub register-temp : (v : List ℕ) → s .file ≡ 4 → v ≡ taken (fourFrom (wordIn r) (128 + 4 * n)) s → v ≡ taken (registerWords e r (s .file) n) s
   register-temp v h ev = ev ∙ ap (λ (q : List ℕ). taken q s) (temp-words e r (s .file) n h)
 
   pub register-none : (s .file ≡ 1 → ⊥) → (s .file ≡ 2 → ⊥) → (s .file ≡ 4 → ⊥) → (s .file ≡ 6 → ⊥) → zeros ≡ taken (registerWords e r (s .file) n) s
@@ -244,14 +237,6 @@ unfolding firstSource
 first-after-kind k h = rw (le-ltb k 0x80 h)
 
 module _ (e : Env) (r bytes : List ℕ) where
-  pub source-there : (p : ℕ) (s : Source) (v : List ℕ) → p + 5 ≤ length bytes → s ≡ sourceAt bytes p → v ≡ sourceOf e r s → v ≡ readAt e r bytes p
-  unfolding readAt
-  source-there p s v h es ev = rw (le-leb (p + 5) (length bytes) h) (ev ∙ ap (sourceOf e r) es)
-
-  pub source-cut : (p : ℕ) → length bytes < p + 5 → zeros ≡ readAt e r bytes p
-  unfolding readAt
-  source-cut p h = rw (lt-leb (p + 5) (length bytes) h)
-
   abbrev kept : ℕ → ℕ → List ℕ
   kept k i = cond (ltb i k) (nthSource e r bytes i) zeros
 
@@ -266,10 +251,11 @@ module _ (e : Env) (r bytes : List ℕ) where
   one-more (suc (suc (suc (suc k)))) v h ev = absurd (omega arith)
 
   module _ (kind count first : ℕ) (ek : kind ≡ getD bytes 0 0) (ec : count ≡ sources (formOf kind)) (ef : first ≡ firstSource kind) where
-    pub source-read : (k : ℕ) (l : List (List ℕ)) (v : List ℕ) → count ≤ 4 → k < count → l ≡ soFar k → v ≡ readAt e r bytes (first + 5 * k) → set l k v ≡ soFar (k + 1)
+    pub source-read : (k : ℕ) (l : List (List ℕ)) (s : Source) (v : List ℕ) → count ≤ 4 → k < count → l ≡ soFar k → s ≡ sourceAt bytes (first + 5 * k) → v ≡ sourceOf e r s
+        → set l k v ≡ soFar (k + 1)
     unfolding nthSource
-    source-read k l v four h el ev =
-        let there : v ≡ nthSource e r bytes k = rw (← ek, ← ec, ← ef, lt-ltb k count h) ev in
+    source-read k l s v four h el es ev =
+        let there : v ≡ nthSource e r bytes k = rw (← ek, ← ec, ← ef, lt-ltb k count h) (ev ∙ ap (sourceOf e r) es) in
         ap (λ (q : List (List ℕ)). set q k v) el ∙ one-more k v (omega arith) there
 
     all-kept : (i : ℕ) → kept count i ≡ nthSource e r bytes i

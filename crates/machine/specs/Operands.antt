@@ -3,8 +3,8 @@
 use Prim.Native.Nat.{ℕ, _+_, _-_, _*_, _/_, _%_, _^_}
 use mathlib.Core.Bool.{Bool, false, cond, _&&_}
 use mathlib.Core.List.{List, [], _∷_}
-use lib.Dec.{ltb, leb, eqb}
-use lib.ListN.{getD, length, take}
+use lib.Dec.{ltb, eqb}
+use lib.ListN.{getD}
 use lib.IntN.{ℤ, pos, negsuc, _+ℤ_}
 use Rattle.words.specs.Word.{bit, neg, signed}
 use Rattle.format.specs.Files.{CONST, IN, TEMP, IMM, tempFrom, addrFrom}
@@ -29,12 +29,11 @@ pub record Env : Type 0 where
 abbrev pub wordIn : List ℕ → ℕ → ℕ
 wordIn words k = getD words k 0
 
--- "1 CONST 0-1023, 2 IN 0-31" (01, Register files): of what is lent, no more words than these registers have are read.
 abbrev pub envWith : (ℕ → ℕ → Bool) → List ℕ → List ℕ → List ℕ → Env
 envWith declared immediates inputs constants =
     record {
-      constants = wordIn (take 4096 constants);
-      inputs = wordIn (take 128 inputs);
+      constants = wordIn constants;
+      inputs = wordIn inputs;
       immediates = wordIn immediates;
       declared = declared;
     }
@@ -51,22 +50,18 @@ declaredIn words f i =
 
 -- ---- one source
 
--- "Four words a register" (01, Register files): register n, of the words of its file.
-abbrev pub fourOf : (ℕ → ℕ) → ℕ → List ℕ
-fourOf word n = components (λ i. word (4 * n + i))
-
--- The four words from `first` on; where they are not all lent, which no run asks for, 0.
-unfoldable pub fourAt : List ℕ → ℕ → List ℕ
-fourAt words first = cond (leb (first + 4) (length words)) (components (λ i. wordIn words (first + i))) zeros
+-- "Four words a register" (01, Register files), from word `first` on.
+abbrev pub fourFrom : (ℕ → ℕ) → ℕ → List ℕ
+fourFrom word first = components (λ i. word (first + i))
 
 -- "Sources CONST, IN, TEMP, IMM": the words of register n of such a file. "TEMP i from 128+4i" (01, Register files)
--- Other files, which no accepted source names, have none.
+-- No accepted source names another (checker's law `Accepted.source-file`).
 unfoldable pub registerWords : Env → List ℕ → ℕ → ℕ → List ℕ
 registerWords e r f n =
-    cond (eqb f CONST) (fourOf (e .constants) n)
-    (cond (eqb f IN) (fourOf (e .inputs) n)
-    (cond (eqb f TEMP) (fourAt r (tempFrom + 4 * n))
-    (cond (eqb f IMM) (fourOf (e .immediates) n) zeros)))
+    cond (eqb f CONST) (fourFrom (e .constants) (4 * n))
+    (cond (eqb f IN) (fourFrom (e .inputs) (4 * n))
+    (cond (eqb f TEMP) (fourFrom (wordIn r) (tempFrom + 4 * n))
+    (cond (eqb f IMM) (fourFrom (e .immediates) (4 * n)) zeros)))
 
 -- "An indirect index is index plus ADDR as a signed number; a negative or undeclared sum reads 0." (01, Instruction corners)
 -- "modifier 1: negate + 2·indirect, indirect 0 for none or 1 to 4 for ADDR[0].x to .w" (01, The program file); "ADDR from 1152"
@@ -109,13 +104,11 @@ kindByte bytes = getD bytes 0 0
 unfoldable pub firstSource : ℕ → ℕ
 firstSource k = cond (ltb k 0x80) 5 1
 
--- A source whose bytes are not all there, or that the kind does not have, reads 0.
-unfoldable pub readAt : Env → List ℕ → List ℕ → ℕ → List ℕ
-readAt e r bytes p = cond (leb (p + 5) (length bytes)) (sourceOf e r (sourceAt bytes p)) zeros
-
+-- What source i reads; one that the kind does not have is 0.
 unfoldable pub nthSource : Env → List ℕ → List ℕ → ℕ → List ℕ
 nthSource e r bytes i =
-    cond (ltb i (sources (formOf (kindByte bytes)))) (readAt e r bytes (firstSource (kindByte bytes) + 5 * i)) zeros
+    cond (ltb i (sources (formOf (kindByte bytes)))) (sourceOf e r (sourceAt bytes (firstSource (kindByte bytes) + 5 * i)))
+    zeros
 
 abbrev pub noSources : List (List ℕ)
 noSources = zeros ∷ zeros ∷ zeros ∷ zeros ∷ []

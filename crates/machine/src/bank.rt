@@ -56,7 +56,7 @@ fn lay(bank: &mut Bank, from: usize, most: usize, words: &[u32])
 
 // The bank of what is lent to be read: no more words of a part than it has registers for.
 pub fn gather(bits: &[u32; 40], immediates: &[u32; 1024], inputs: &[u32], constants: &[u32]) -> Bank
-    ensures { λ r. ⌜ envIn r ≡ envWith (declaredIn (now (bits .entry))) (now (immediates .entry)) (now (inputs .entry)) (now (constants .entry)) ⌝ }
+    ensures { λ r. ⌜ envIn r ≡ envWith (declaredIn (now (bits .entry))) (now (immediates .entry)) (take 128 (now (inputs .entry))) (take 4096 (now (constants .entry))) ⌝ }
 {
     let mut bank = [0u32; BANK_WORDS];
     lay(&mut bank, CONST_AT, CONST_WORDS, constants);

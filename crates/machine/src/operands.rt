@@ -3,14 +3,15 @@ use crate::bank::Bank;
 use crate::parts;
 use effects::lent::word_at;
 use format::fields::Source;
-use format::fields::source_in;
+use format::fields::source_at;
 use format::kinds::sources_of;
 use words::sums::neg32;
 ghost use mathlib.Core.Path.{_≡_};
-ghost use Prim.Native.Nat.{_<_, _^_};
+ghost use Prim.Native.Nat.{_+_, _<_, _≤_, _^_};
 ghost use lib.IntN.{pos, _+ℤ_};
+ghost use lib.ListN.{length};
 ghost use Rattle.words.specs.Word.{signed};
-ghost use Rattle.machine.specs.Operands.{bitIn, declaredIn, ifDeclared, registerOf, selected, fourAt, registerWords, taken, sourceOf, kindByte, firstSource, readAt, noSources, sourcesOf};
+ghost use Rattle.machine.specs.Operands.{wordIn, bitIn, declaredIn, ifDeclared, registerOf, selected, fourFrom, registerWords, taken, sourceOf, kindByte, firstSource, noSources, sourcesOf};
 ghost use Rattle.machine.specs.Bank.{envIn};
 
 // The register that a source names, or none.
@@ -86,14 +87,11 @@ fn select(swizzle: u8, i: u8) -> u8
     (swizzle >> (2 * i)) % 4
 }
 
-// What a source takes of the four words from `first` on, 0 where they are not all there.
-fn pick(words: &[u32], first: usize, s: Source) -> [u32; 4]
-    requires { ⌜ first < 2 ^ 40 ⌝ }
-    ensures { λ r. ⌜ r ≡ taken (fourAt (now (words .entry)) first) s ⌝ }
+// What a source takes of the four words from `first` on, which are all there.
+fn pick_in(words: &[u32], first: usize, s: Source) -> [u32; 4]
+    requires { ⌜ first + 4 ≤ length (now words) ⌝ }
+    ensures { λ r. ⌜ r ≡ taken (fourFrom (wordIn (now (words .entry))) first) s ⌝ }
 {
-    if words.len() < first + 4 {
-        return [0, 0, 0, 0];
-    }
     let x = words[first + select(s.swizzle, 0) as usize];
     let y = words[first + select(s.swizzle, 1) as usize];
     let z = words[first + select(s.swizzle, 2) as usize];
@@ -103,6 +101,31 @@ fn pick(words: &[u32], first: usize, s: Source) -> [u32; 4]
     } else {
         [x, y, z, w]
     }
+}
+
+// The four words from `first` on, 0 for those that are not there.
+fn four_from(words: &[u32], first: usize) -> [u32; 4]
+    requires { ⌜ first < 2 ^ 40 ⌝ }
+    ensures { λ r. ⌜ r ≡ fourFrom (wordIn (now (words .entry))) first ⌝ }
+{
+    [
+        word_at(words, first),
+        word_at(words, first + 1),
+        word_at(words, first + 2),
+        word_at(words, first + 3),
+    ]
+}
+
+// What a source takes of the four words from `first` on: one comparison where they are all there.
+fn pick(words: &[u32], first: usize, s: Source) -> [u32; 4]
+    requires { ⌜ first < 2 ^ 40 ⌝ }
+    ensures { λ r. ⌜ r ≡ taken (fourFrom (wordIn (now (words .entry))) first) s ⌝ }
+{
+    if words.len() < first + 4 {
+        let four = four_from(words, first);
+        return pick_in(&four, 0, s);
+    }
+    pick_in(words, first, s)
 }
 
 // What a source takes of register n of its file.
@@ -131,18 +154,6 @@ fn read(s: Source, bank: &Bank, registers: &[u32]) -> [u32; 4]
     }
 }
 
-// What the source from byte `at` of a record on reads; one whose bytes are not all there reads 0.
-fn read_at(bytes: &[u8], at: usize, bank: &Bank, registers: &[u32]) -> [u32; 4]
-    requires { ⌜ at < 2 ^ 40 ⌝ }
-    ensures { λ r. ⌜ r ≡ readAt (envIn (now (bank .entry))) (now (registers .entry)) (now (bytes .entry)) at ⌝ }
-{
-    if bytes.len() < at + 5 {
-        return [0, 0, 0, 0];
-    }
-    let s = source_in(bytes, at);
-    read(s, bank, registers)
-}
-
 // Where the first source of a record stands.
 fn first_source(kind: u8) -> u8
     ensures { λ r. ⌜ r ≡ firstSource kind ⌝ }
@@ -165,7 +176,7 @@ pub fn read_sources(
     let first = first_source(kind) as usize;
     let mut k: usize = 0;
     while k < count {
-        sources[k] = read_at(bytes, first + 5 * k, bank, registers);
+        sources[k] = read(source_at(bytes, first + 5 * k), bank, registers);
         k += 1;
     }
 }

@@ -9,6 +9,6 @@ put-word-spec =
     tie.close
     (tie.spec
     (search needs) (search needs) (search needs) (search needs) (search needs) (search needs) (search needs)
-    (search needs) (search needs) (search needs)
+    (search needs) (search needs)
     (λ c. search (needs, word-placed))
     (λ c. search (needs, masked-off)))

@@ -1,5 +1,5 @@
 -- One component after the other.
-use Rattle.effects.proofs.Writes.{not-written, room, word-lengths, word-more, words-written, writtenTo}
+use Rattle.effects.proofs.Writes.{word-lengths, word-more, words-written, writtenTo}
 use mathlib.Core.Path.{_≡_}
 use Prim.Native.Nat.{_-_, _≤_}
 use Rattle.effects.specs.Arithmetic.{resultWords}
@@ -17,11 +17,7 @@ pub write-words-spec : {M : Type 1} → statement M
 write-words-spec =
     tie.close
     (tie.spec Inv-loop μ-loop
-    (search needs)
-    (λ c. search (needs, not-written))
-    (search needs)
-    (λ c. search (needs, room))
-    (search needs) (search needs)
+    (search needs) (search needs) (search needs) (search needs)
     (λ c. search (needs, word-more))
     (λ c. search (needs, word-lengths))
     (λ c. search (needs, words-written)))

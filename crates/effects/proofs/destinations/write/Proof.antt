@@ -1,5 +1,5 @@
 -- A result goes to its components one after the other.
-use Rattle.effects.proofs.Writes.{not-written, written-is}
+use Rattle.effects.proofs.Writes.{written-is}
 use borrow.Author.Needs.{needs}
 use Rattle.effects.proofs.destinations.write.Statement.{statement}
 use Rattle.effects.proofs.destinations.write.Tie as tie
@@ -8,8 +8,6 @@ pub write-spec : {M : Type 1} → statement M
 write-spec =
     tie.close
     (tie.spec
-    (search needs)
-    (λ c. search (needs, not-written))
     (search needs) (search needs) (search needs) (search needs) (search needs) (search needs) (search needs)
     (search needs) (search needs)
     (λ c. search (needs, written-is)))

@@ -1,5 +1,5 @@
--- The four components of words that are there, or none.
-use Rattle.machine.proofs.Sources.{pick-negated, pick-past, pick-plain, word-there}
+-- Of words that are there, or of four that were read one by one.
+use Rattle.machine.proofs.Sources.{pick-apart}
 use borrow.Author.Needs.{needs}
 use Rattle.machine.proofs.operands.pick.Statement.{statement}
 use Rattle.machine.proofs.operands.pick.Tie as tie
@@ -8,12 +8,7 @@ pub pick-spec : {M : Type 1} → statement M
 pick-spec =
     tie.close
     (tie.spec
-    (search needs)
-    (λ c. search (needs, pick-past))
-    (search needs) (search needs) (search needs) (search needs) (λ c. search (needs, word-there))
-    (search needs) (search needs) (search needs) (search needs) (λ c. search (needs, word-there))
-    (search needs) (search needs) (search needs) (search needs) (λ c. search (needs, word-there))
-    (search needs) (search needs) (search needs) (search needs) (λ c. search (needs, word-there))
     (search needs) (search needs) (search needs) (search needs)
-    (λ c. search (needs, pick-negated))
-    (λ c. search (needs, pick-plain)))
+    (λ c. search (needs, pick-apart))
+    (search needs)
+    (λ c. search needs))

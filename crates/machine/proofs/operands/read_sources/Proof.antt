@@ -21,5 +21,6 @@ read-sources-spec =
     (search needs) (search needs) (search needs) (search needs)
     (λ c. search (needs, four-at-most, refl))
     (search needs) (search needs) (search needs) (search needs) (search needs) (search needs) (search needs)
+    (search needs)
     (λ c. search (needs, source-read))
     (λ c. search (needs, sources-read)))
