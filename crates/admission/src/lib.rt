@@ -1,5 +1,5 @@
 // Whether a file may be run over what is lent, by lengths alone: the refusals of the check, and after them those for what is lent.
-use blocks::table::ROW_WORDS;
+use blocks::ROW_WORDS;
 use checker::Checked;
 use checker::Verdict;
 use checker::examine;

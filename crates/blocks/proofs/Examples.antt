@@ -5,15 +5,12 @@ use Prim.Native.Nat.{ℕ, _-_}
 use mathlib.Core.Bool.{true, false, cond}
 use mathlib.Core.List.{List, [], _∷_}
 use lib.ListN.{getD, replicate}
-use Rattle.format.specs.Kinds.{lengthOf}
-use Rattle.format.specs.Records.{sizeAt, next, placeFrom}
 use Rattle.blocks.specs.Control.{PLAIN, DEFAULT, UIF, CASE, is, Machine, opOf, opAt}
 use Rattle.blocks.specs.Lists.{nil, one, loop, switch, listFrom, nestedLists}
 use Rattle.blocks.specs.Nesting.{openLoop, openSwitch, refused, rule, accepts}
-use Rattle.blocks.specs.Prepared.{tableWords}
 use Rattle.blocks.specs.Reading.{ended, halted, read, rounds, reading}
 use Rattle.blocks.specs.Run.{walk, run}
-use Rattle.blocks.specs.Table.{row, rowAt, firstLabel, rows, table, wordsOf}
+use Rattle.blocks.specs.Table.{row, rowAt, firstLabel, rows, table}
 
 -- A machine over one number: PLAIN takes one off, UIF and SWITCH look at the number, the words of the CASEs are listed.
 abbrev countdown : List ℕ → List ℕ → Machine ℕ
@@ -70,16 +67,6 @@ mixed-read = refl
 mixed-run : run mixed (rowAt (table (opAt mixed) (nestedLists (opAt mixed) 16))) 100 0 0 4 ≡ ended 22 0
 unfolding run table rows walk firstLabel listFrom opOf
 mixed-run = refl
-
--- Case 12: MOV and END of the 34 bytes, whose instructions begin at place 23.
-abbrev case12 : List ℕ
-case12 =
-    0x01 ∷ 0x03 ∷ 0 ∷ 0 ∷ 0 ∷ 0 ∷ 0x02 ∷ 0x19 ∷ 0 ∷ 0 ∷ 0 ∷ 0 ∷ 0 ∷ 0 ∷ 0 ∷ 0 ∷ 0 ∷ 0 ∷ 0 ∷ 0 ∷ 0 ∷ 0 ∷ 0
-    ∷ 0x10 ∷ 0x03 ∷ 0 ∷ 0 ∷ 0x01 ∷ 0x06 ∷ 0 ∷ 0 ∷ 0xE4 ∷ 0 ∷ 0x89 ∷ []
-
-case12-table : tableWords case12 23 2 ≡ 23 ∷ 0 ∷ 0 ∷ 33 ∷ 0 ∷ 0 ∷ []
-unfolding tableWords wordsOf table rows listFrom opOf placeFrom next sizeAt lengthOf
-case12-table = refl
 
 -- A label after DEFAULT and a second DEFAULT are refused with 11; an instruction right after SWITCH too, even as a 17th block.
 after-default : rule CASE 5 (openSwitch (7 ∷ []) true ∷ []) ≡ refused 11

@@ -1,15 +1,9 @@
 pub mod Agree
+pub mod Bound
 pub mod Correct
 pub mod Examples
-pub mod Fill
-pub mod Laid
-pub mod Located
+pub mod Inside
 pub mod Nested
 pub mod Ops
 pub mod Parse
-pub mod Readers
-pub mod Rows
-pub mod Same
 pub mod Sim
-pub mod Words
-pub mod Inside

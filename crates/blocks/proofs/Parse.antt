@@ -14,7 +14,7 @@ use lib.ListN.{length}
 use Rattle.blocks.specs.Control.{Op, PLAIN, ELSE, ENDIF, BGNLOOP, ENDLOOP, BRK, CONT, DEFAULT, ENDSWITCH, END, UIF, SWITCH, CASE, is}
 use Rattle.blocks.specs.Lists.{Items, nil, one, size, item, listAt, nestedLists}
 use Rattle.blocks.specs.Nesting.{Open, openUif, openElse, openLoop, openSwitch, isSwitch, innermost, breakable, continuable, nestingRule, switchRule, mostOpen, opens, openAfter, goes, refused, passes, accepts}
-use Rattle.blocks.proofs.Laid.{list-item}
+use Rattle.blocks.proofs.Bound.{list-item}
 use Rattle.blocks.proofs.Nested.{Close, atElse, atEndif, atEndloop, atEndswitch, atEnd, closing, Context, program, Fine, hasDefault, WF, w-one, w-close, w-uif, w-uif1, w-loop, w-switch, last-closes}
 
 -- What an instruction that passes has shown.

@@ -47,6 +47,10 @@ is o p = eqb (kindOf o) (kindOf p)
 abbrev pub isLabel : Op → Bool
 isLabel o = is CASE o || is DEFAULT o
 
+-- The marks that are the last instruction of their list.
+abbrev pub closes : Op → Bool
+closes o = is ELSE o || is ENDIF o || is ENDLOOP o || is ENDSWITCH o || is END o
+
 -- A program over states S. Of instruction n: its kind byte, its effect, the x that a UIF or a SWITCH
 -- looks at, and the word of a CASE.
 pub record Machine (S : Type 0) : Type 0 where

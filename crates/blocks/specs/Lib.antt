@@ -1,7 +1,6 @@
 pub mod Control
 pub mod Lists
 pub mod Nesting
-pub mod Prepared
 pub mod Reading
 pub mod Run
 pub mod Table

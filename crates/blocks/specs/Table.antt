@@ -5,7 +5,7 @@ use mathlib.Core.Bool.{cond}
 use mathlib.Core.List.{List, [], _∷_, _++_}
 use lib.ListN.{getD}
 use Rattle.blocks.specs.Control.{Op, PLAIN, ELSE, ENDIF, BGNLOOP, ENDLOOP, BRK, CONT, DEFAULT, ENDSWITCH, END, UIF, SWITCH, CASE, isLabel}
-pub use Rattle.blocks.specs.declared.table.Targets.{Targets}
+pub use Rattle.blocks.specs.declared.Targets.{Targets}
 use Rattle.blocks.specs.Lists.{Items, nil, one, uif, loop, switch, size}
 
 -- The words of an instruction's row that steer, as instruction numbers.
@@ -16,7 +16,7 @@ pub record Row : Type 0 where
 abbrev pub row : ℕ → ℕ → Row
 row jump label = record { jump = jump; label = label }
 
--- `Targets`, a struct of src/table.rt: where BRK, CONT or ENDLOOP, and ELSE in a list go, as numbers `brk`, `cont`, `after`.
+-- `Targets`, a struct of src/lib.rt: where BRK, CONT or ENDLOOP, and ELSE in a list go, as numbers `brk`, `cont`, `after`.
 -- "BRK goes after the end of the innermost enclosing loop or SWITCH." "ENDLOOP and CONT go after BGNLOOP, CONT that of the
 -- innermost enclosing loop." "ELSE, reached from above, goes after ENDIF." (01, Blocks) Nowhere in the outermost list.
 abbrev pub nowhere : Targets

@@ -11,13 +11,13 @@ use Rattle.format.specs.Fields.{caseWord}
 use Rattle.blocks.specs.Control.{Machine, opAt}
 use Rattle.blocks.specs.Lists.{nestedLists}
 use Rattle.blocks.specs.Nesting.{accepts}
-use Rattle.blocks.specs.Prepared.{opFrom}
 use Rattle.blocks.specs.Reading.{halted}
 use Rattle.blocks.specs.Run.{mostInstructions}
 use Rattle.blocks.specs.Table.{rowAt, rowIn, placeIn, table}
 use Rattle.blocks.proofs.Correct.{Final, run-is-reading, run-by-table, run-final}
 use Rattle.blocks.proofs.Inside.{Stays, reading-stays}
 use Rattle.blocks.proofs.Sim.{Alike}
+use Rattle.table.specs.Prepared.{opFrom}
 use Rattle.checker.specs.Check.{accepted, checkOf}
 use Rattle.checker.specs.Findings.{Seen}
 use Rattle.checker.proofs.Followed.{followed}

@@ -17,8 +17,8 @@ use Rattle.format.specs.Files.{OUT, TEMP, tempFrom, addrFrom, lentRegisters}
 use Rattle.format.specs.Kinds.{destinations, formOf, within}
 use Rattle.format.specs.declared.fields.Destination.{Destination}
 use Rattle.format.proofs.Ranges.{every, in-range}
-use Rattle.blocks.specs.Prepared.{opFrom}
 use Rattle.blocks.proofs.Inside.{Stays, reading-stays}
+use Rattle.table.specs.Prepared.{opFrom}
 use Rattle.registers.specs.Sets.{registersOf}
 use Rattle.registers.proofs.Named.{destination-inside}
 use Rattle.checker.specs.Check.{accepted, checkOf}

@@ -9,8 +9,8 @@ use Rattle.format.specs.Files.{CONST, TEMP, lentRegisters}
 use Rattle.format.specs.Records.{placeFrom}
 use Rattle.blocks.specs.Control.{Machine}
 use Rattle.blocks.specs.Lists.{Items, nestedLists}
-use Rattle.blocks.specs.Prepared.{opFrom}
 use Rattle.blocks.specs.Reading.{Reading, reading}
+use Rattle.table.specs.Prepared.{opFrom}
 use Rattle.checker.specs.Findings.{Seen}
 use Rattle.effects.specs.Destinations.{State}
 use Rattle.machine.specs.Operands.{Env, envWith}

@@ -5,10 +5,10 @@ use mathlib.Core.Path.{_≡_}
 use mathlib.Core.List.{List}
 use lib.ListN.{length}
 use Rattle.format.specs.Files.{lentRegisters}
-use Rattle.blocks.specs.Prepared.{opFrom}
 use Rattle.blocks.specs.Reading.{Reading, ended, halted}
 use Rattle.blocks.specs.Run.{run, mostInstructions}
 use Rattle.blocks.specs.Table.{rowAt, rowIn, placeIn, table}
+use Rattle.table.specs.Prepared.{opFrom}
 use Rattle.checker.specs.Findings.{Seen}
 use Rattle.effects.specs.Destinations.{State}
 use Rattle.effects.specs.Effect.{state}

@@ -1,6 +1,6 @@
 // Where a SWITCH goes: the walk along its labels, which looks at all CASEs before it takes DEFAULT.
-use blocks::table::MOST_INSTRUCTIONS;
-use blocks::table::ROW_WORDS;
+use blocks::MOST_INSTRUCTIONS;
+use blocks::ROW_WORDS;
 use effects::lent::word_at;
 use format::fields::byte_at;
 use format::fields::case_word;

@@ -7,9 +7,9 @@ use native.Mathlib.Omega.{arith}
 use borrow.Author.Tests.{lt-ltb, le-ltb, le-leb}
 use lib.ListN.{length, take}
 use Rattle.format.specs.Records.{longest}
-use Rattle.blocks.specs.Prepared.{filled}
 use Rattle.blocks.specs.Run.{mostInstructions}
 use Rattle.blocks.specs.Table.{rowWords}
+use Rattle.table.specs.Prepared.{filled}
 use Rattle.registers.specs.Sets.{isIn}
 use Rattle.checker.specs.declared.Checked.{Checked}
 use Rattle.checker.specs.declared.Verdict.the-variants.{Accepted, Refused}

@@ -10,9 +10,9 @@ use Rattle.format.specs.Fields.{word16, word32, destinationAt, sourceAt, declar
 use Rattle.format.specs.Records.{sizeAt, next, placeFrom}
 use Rattle.blocks.specs.Control.{opOf}
 use Rattle.blocks.specs.Lists.{listFrom}
-use Rattle.blocks.specs.Prepared.{tableWords}
 use Rattle.blocks.specs.Reading.{read, past, rounds, reading}
 use Rattle.blocks.specs.Table.{firstLabel, rows, table, wordsOf}
+use Rattle.table.specs.Prepared.{tableWords}
 use Rattle.registers.specs.Found.{sourceFound, operandsFound}
 use Rattle.registers.specs.Rules.{destinationRule, sourceRule, allOperands, declarationRule}
 use Rattle.checker.specs.Check.{walk, checkOf}

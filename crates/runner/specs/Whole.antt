@@ -7,7 +7,7 @@ use mathlib.Core.List.{List, []}
 use lib.ListN.{length, take}
 use lib.Seq.{sets}
 use Rattle.blocks.specs.Reading.{Reading, out, brk, cont, ended, halted}
-use Rattle.blocks.specs.Prepared.{tableWords}
+use Rattle.table.specs.Prepared.{tableWords}
 use Rattle.checker.specs.declared.program.Program.{Program}
 use Rattle.checker.specs.Findings.{Seen}
 use Rattle.checker.specs.Check.{Outcome, accepted, refused, checkOf, programSeen}

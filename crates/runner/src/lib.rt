@@ -1,16 +1,16 @@
 // Runs of program files: check, prepare, clear, carry out. Nobody has to check first, and nothing is asked of what is lent.
 use admission::Sizes;
 use admission::admit;
-use blocks::table::ROW_WORDS;
-use blocks::table::fill;
+use blocks::ROW_WORDS;
 use checker::examine;
 use checker::program::Program;
 use execution::Stop;
 use execution::lent::bank_of;
 use execution::steps::run_rows;
+use table::fill;
 ghost use mathlib.Core.Path.{_≡_};
 ghost use Prim.Native.Nat.{_≤_};
-ghost use Rattle.blocks.specs.Prepared.{filled};
+ghost use Rattle.table.specs.Prepared.{filled};
 ghost use Rattle.runner.specs.Answers.{prepareAnswer, prepareAfter, runAnswer, stopAnswer, lent, after, stepsOf};
 ghost use Rattle.runner.specs.Whole.{prepareOf, runOf, Admits};
 pub use checker::Verdict;

@@ -1,0 +1,269 @@
+-- The rows that the readers write one after the other are the rows of the list.
+-- Assumes nothing.
+use mathlib.Core.Path.{_≡_, refl, sym, _∙_}
+use mathlib.Core.Bool.{Bool, true, false, cond}
+use mathlib.Core.List.{List, [], _∷_, _++_, append-nil, append-assoc}
+use Prim.Native.Nat.{ℕ, suc, _+_, _*_, _<_, _≤_}
+use native.Mathlib.Omega.{arith}
+use native.Mathlib.Numerals.{add-one}
+use lib.ListN.{length, getD}
+use lib.Seq.{sets, length-sets}
+use Rattle.blocks.specs.Control.{Op, PLAIN, ELSE, ENDIF, BGNLOOP, ENDLOOP, BRK, CONT, DEFAULT, ENDSWITCH, END, UIF, SWITCH, CASE, isLabel, closes, opOf}
+use Rattle.blocks.specs.Lists.{Items, nil, one, uif, loop, switch, size}
+use Rattle.blocks.specs.Nesting.{opens}
+use Rattle.blocks.specs.Run.{mostInstructions}
+use Rattle.blocks.specs.declared.Targets.{Targets}
+use Rattle.blocks.specs.Table.{inUif, inLoop, inSwitch, jumpOf, firstLabel, rowOf, uifRow, loopRow, switchRow, rows, rowWords, wordsOf}
+use Rattle.blocks.proofs.Agree.{length-rows}
+use Rattle.table.specs.Inner.Lists.{blockOf, opIn, listIn, blockIn}
+use Rattle.table.specs.Inner.Rows.{wordsIn, singleIn, Room, Near, Opening}
+use Rattle.table.proofs.Laid.{list-laid, laid-label}
+use Rattle.table.proofs.Readers.{list-within, past-end, at-last, at-plain, at-opening, at-loop, at-switch, at-uif}
+use Rattle.table.proofs.Tests.{uif-left, last-no-label}
+use Rattle.table.proofs.Words.{rows-then}
+
+pub chosen : (t v : Bool) (r x : ℕ) → t ≡ v → t ≡ true → r ≡ x → r ≡ cond v x 0
+chosen t v r x e k f = rw (sym e ∙ k, f)
+
+pub not-chosen : (t v : Bool) (x : ℕ) → t ≡ v → t ≡ false → 0 ≡ cond v x 0
+not-chosen t v x e k = rw (sym e ∙ k)
+
+-- ---- Numbers that fit a row
+
+module _ (kinds places work : List ℕ) (room : Room kinds places work) where
+  pub end-near : (n e : ℕ) → n < length kinds → e ≡ n + size (blockIn kinds n) → e ≤ mostInstructions
+  end-near n e h d = omega (arith, list-within kinds n (omega arith), block-most (listIn kinds n), room .few)
+    where
+      block-most : (l : Items) → size (blockOf l) ≤ size l
+      block-most nil = omega arith
+      block-most (one n rest) = omega arith
+      block-most (uif n p q rest) = omega arith
+      block-most (loop n l rest) = omega arith
+      block-most (switch n l rest) = omega arith
+
+  pub past-near : (n p : ℕ) → n < length kinds → p ≡ n + 1 + size (listIn kinds (n + 1)) → p ≤ mostInstructions
+  past-near n p h d = omega (arith, list-within kinds (n + 1) (omega arith), room .few)
+
+  pub first-near : (n l : ℕ) → l ≡ firstLabel (opIn kinds) (listIn kinds n) → l ≤ mostInstructions
+  first-near n l d =
+      omega (arith, laid-label (opIn kinds) (length kinds) (listIn kinds n) n (list-laid (opIn kinds) (length kinds) n), room .few)
+
+  pub label-near : (t : Bool) (n l : ℕ) → l ≡ cond t (firstLabel (opIn kinds) (listIn kinds n)) 0 → l ≤ mostInstructions
+  label-near true n l d = first-near n l d
+  label-near false n l d = omega arith
+
+  pub next-near : (n : ℕ) → n < length kinds → n + 1 ≤ mostInstructions
+  next-near n h = omega (arith, room .few)
+
+pub none-near : 0 ≤ mostInstructions
+none-near = omega arith
+
+pub near-of : (b c a : ℕ)
+    → b ≤ mostInstructions
+    → c ≤ mostInstructions
+    → a ≤ mostInstructions
+    → Near (record { brk = b; cont = c; after = a })
+near-of b c a hb hc ha = record { brk = hb; cont = hc; after = ha }
+
+pub body-near : (t : Targets) (b c : ℕ)
+    → t ≡ record { brk = b; cont = c; after = 0 }
+    → b ≤ mostInstructions
+    → c ≤ mostInstructions
+    → Near t
+body-near t b c e hb hc = rw e (near-of b c 0 hb hc none-near)
+
+pub jump-near : (t : Targets) → Near t → (o : Op) (j : ℕ) → j ≡ jumpOf o t → j ≤ mostInstructions
+jump-near t near ELSE j d = omega (arith, near .after)
+jump-near t near ENDLOOP j d = omega (arith, near .cont)
+jump-near t near CONT j d = omega (arith, near .cont)
+jump-near t near BRK j d = omega (arith, near .brk)
+jump-near t near CASE j d = omega arith
+jump-near t near DEFAULT j d = omega arith
+jump-near t near PLAIN j d = omega arith
+jump-near t near ENDIF j d = omega arith
+jump-near t near BGNLOOP j d = omega arith
+jump-near t near ENDSWITCH j d = omega arith
+jump-near t near END j d = omega arith
+jump-near t near UIF j d = omega arith
+jump-near t near SWITCH j d = omega arith
+
+-- ---- Rows one after the other
+
+empty : (l : Items) → size l ≡ 0 → l ≡ nil
+empty nil h = refl
+empty (one n rest) h = absurd (omega arith)
+empty (uif n p q rest) h = absurd (omega arith)
+empty (loop n l rest) h = absurd (omega arith)
+empty (switch n l rest) h = absurd (omega arith)
+
+pub room-kept : (kinds places w w1 vs : List ℕ) (i : ℕ) → Room kinds places w → w1 ≡ sets w i vs → Room kinds places w1
+room-kept kinds places w w1 vs i h e = record {
+  few = h .few;
+  located = h .located;
+  room = rw (e, length-sets w i vs) (h .room);
+}
+
+pub length-kept : (w w1 vs : List ℕ) (i n : ℕ) → length w ≡ n → w1 ≡ sets w i vs → length w1 ≡ n
+length-kept w w1 vs i n h e = rw (e, length-sets w i vs) h
+
+pub opens-block : (kinds : List ℕ) (n : ℕ) (t : Bool) → n < length kinds → t ≡ opens (opOf (getD kinds n 0)) → t ≡ true → Opening kinds n
+opens-block kinds n t h e k = record { there = h; opening = sym e ∙ k }
+
+module _ (kinds places : List ℕ) (t : Targets) where
+  abbrev place : ℕ → ℕ
+  place n = getD places n 0
+
+  abbrev op : ℕ → Op
+  op = opIn kinds
+
+  -- The rows of a list that begins with a block.
+  rows-split : (m : ℕ)
+      → m < length kinds
+      → (a : Bool)
+      → a ≡ opens (opOf (getD kinds m 0))
+      → a ≡ true
+      → rows op t (listIn kinds m) ≡ rows op t (blockIn kinds m) ++ rows op t (listIn kinds (m + size (blockIn kinds m)))
+  unfolding rows
+  rows-split m h a f k =
+      let p : Items = listIn kinds (suc m) in
+      let j : m + suc (size p + 0) ≡ suc m + size p = omega arith in
+      at-opening kinds m h (λ l. rows op t l ≡ rows op t (blockOf l) ++ rows op t (listIn kinds (m + size (blockOf l)))) a f k
+      (λ q.
+      let i : m + suc (size p + (size q + 0)) ≡ suc m + size p + size q = omega arith in
+      let u : Targets = inUif m p q t in
+      rw (i, append-nil (rows op u q), append-assoc (rows op u p) (rows op u q)))
+      (rw (j, append-nil (rows op (inLoop m p) p)))
+      (rw (j, append-nil (rows op (inSwitch m p t) p)))
+
+  -- `single`: the row of an instruction that opens no block.
+  pub single-row : (n j l : ℕ) (w w1 : List ℕ)
+      → j ≡ jumpOf (opOf (getD kinds n 0)) t
+      → l ≡ cond (isLabel (opOf (getD kinds n 0))) (firstLabel (opIn kinds) (listIn kinds (n + 1))) 0
+      → w1 ≡ sets w (rowWords * n) (getD places n 0 ∷ j ∷ l ∷ [])
+      → w1 ≡ sets w (rowWords * n) (singleIn kinds places t n)
+  unfolding singleIn wordsOf
+  single-row n j l w w1 jump label wrote = wrote ∙ rw (jump, label)
+
+  -- `block`: what is left to write from instruction m on, over the words w, makes W.
+  module _ (m : ℕ) (w W : List ℕ) (left : sets w (rowWords * m) (wordsIn kinds places t m (listIn kinds m)) ≡ W) where
+    pub block-stop : length kinds ≤ m → w ≡ W
+    unfolding wordsIn wordsOf rows
+    block-stop h = rw (past-end kinds m h) at left
+
+    module _ (h : m < length kinds)
+        (w1 : List ℕ) (wrote : w1 ≡ sets w (rowWords * m) (singleIn kinds places t m))
+        (a : Bool) (d : a ≡ closes (opOf (getD kinds m 0)))
+      where
+        pub block-last : a ≡ true → w1 ≡ W
+        unfolding wordsIn singleIn wordsOf rows firstLabel
+        block-last k =
+            let no : isLabel (opIn kinds m) ≡ false = last-no-label (opIn kinds m) (sym d ∙ k) in
+            wrote ∙ rw no (rw (at-last kinds m h a d k, no) at left)
+
+        pub block-plain : a ≡ false → (u : Bool) → u ≡ opens (opOf (getD kinds m 0)) → u ≡ false
+            → sets w1 (rowWords * (m + 1)) (wordsIn kinds places t (m + 1) (listIn kinds (m + 1))) ≡ W
+        unfolding wordsIn singleIn rows
+        block-plain k u f o =
+            rows-then place m (m + 1) (rowOf op (op m) t (listIn kinds (m + 1)) ∷ []) (rows op t (listIn kinds (m + 1))) w w1 _ wrote
+            (omega arith) refl
+            ∙ rw (add-one m) (rw (at-plain kinds m h a u d k f o) at left)
+
+    pub block-opening : m < length kinds
+        → (a : Bool)
+        → a ≡ opens (opOf (getD kinds m 0))
+        → a ≡ true
+        → (r : ℕ) (w1 : List ℕ)
+        → r ≡ m + size (blockIn kinds m)
+        → w1 ≡ sets w (rowWords * m) (wordsIn kinds places t m (blockIn kinds m))
+        → sets w1 (rowWords * r) (wordsIn kinds places t r (listIn kinds r)) ≡ W
+    unfolding wordsIn
+    block-opening h a f k r w1 d wrote =
+        rows-then place m r (rows op t (blockIn kinds m)) (rows op t (listIn kinds r)) w w1 _ wrote
+        (omega (arith, length-rows op t (blockIn kinds m))) refl
+        ∙ rw (d, ← rows-split m h a f k) left
+
+  -- `opening`: the block that instruction n opens ends before number e, and over its first row its lists are written.
+  module _ (n e : ℕ) (w w1 : List ℕ) (h : n < length kinds) (ends : e ≡ n + size (blockIn kinds n)) where
+    list : Items
+    list = listIn kinds (suc n)
+
+    pub open-loop : (u : Targets)
+        → u ≡ record { brk = e; cont = n + 1; after = 0 }
+        → getD kinds n 0 ≡ 0x83
+        → w1 ≡ sets w (rowWords * n) (getD places n 0 ∷ 0 ∷ 0 ∷ [])
+        → (w2 : List ℕ)
+        → w2 ≡ sets w1 (rowWords * (n + 1)) (wordsIn kinds places u (n + 1) (listIn kinds (n + 1)))
+        → w2 ≡ sets w (rowWords * n) (wordsIn kinds places t n (blockIn kinds n))
+    unfolding wordsIn wordsOf rows list
+    open-loop u g k wrote w2 inside =
+        let fin : e ≡ suc n + size list = ends ∙ rw (at-loop kinds n h k) (omega arith) in
+        rw (at-loop kinds n h k, append-nil (rows op (inLoop n list) list))
+        (rows-then place n (suc n) (loopRow ∷ []) (rows op (inLoop n list) list) w w1 w2 wrote (omega arith)
+        (rw (g, fin, add-one n) at inside))
+
+    pub open-switch : (u : Targets)
+        → u ≡ record { brk = e; cont = t .cont; after = 0 }
+        → getD kinds n 0 ≡ 0x91
+        → (l : ℕ)
+        → l ≡ firstLabel (opIn kinds) (listIn kinds (n + 1))
+        → w1 ≡ sets w (rowWords * n) (getD places n 0 ∷ e ∷ l ∷ [])
+        → (w2 : List ℕ)
+        → w2 ≡ sets w1 (rowWords * (n + 1)) (wordsIn kinds places u (n + 1) (listIn kinds (n + 1)))
+        → w2 ≡ sets w (rowWords * n) (wordsIn kinds places t n (blockIn kinds n))
+    unfolding wordsIn wordsOf rows list
+    open-switch u g k l label wrote w2 inside =
+        let fin : e ≡ suc n + size list = ends ∙ rw (at-switch kinds n h k) (omega arith) in
+        rw (at-switch kinds n h k, append-nil (rows op (inSwitch n list t) list))
+        (rows-then place n (suc n) (switchRow op n list ∷ []) (rows op (inSwitch n list t) list) w w1 w2
+        (rw (fin, label, add-one n) at wrote) (omega arith) (rw (g, fin, add-one n) at inside))
+
+    -- A UIF's first part ends before number p, and is written.
+    module _ (p : ℕ) (w2 : List ℕ)
+        (o : Opening kinds n)
+        (no-loop : getD kinds n 0 ≡ 0x83 → ⊥)
+        (no-switch : getD kinds n 0 ≡ 0x91 → ⊥)
+        (first : p ≡ n + 1 + size (listIn kinds (n + 1)))
+        (wrote : w1 ≡ sets w (rowWords * n) (getD places n 0 ∷ p ∷ 0 ∷ []))
+        (inside : w2 ≡ sets w1 (rowWords * (n + 1)) (wordsIn kinds places (record { brk = t .brk; cont = t .cont; after = e }) (n + 1) (listIn kinds (n + 1))))
+      where
+        k : getD kinds n 0 ≡ 0x90
+        k = uif-left (getD kinds n 0) (o .opening) no-loop no-switch
+
+        part : p ≡ suc n + size list
+        unfolding list
+        part = rw (add-one n) at first
+
+        -- With the second part q, whose rows go the same ways.
+        first-rows : (q : Items)
+            → e ≡ n + size (uif n list q nil)
+            → w2 ≡ sets w (rowWords * n) (wordsOf place n (uifRow n list ∷ rows op (inUif n list q t) list))
+        unfolding wordsIn wordsOf rows list
+        first-rows q fin =
+            let fin′ : e ≡ suc n + size list + size q = omega arith in
+            rows-then place n (suc n) (uifRow n list ∷ []) (rows op (inUif n list q t) list) w w1 w2 (rw part at wrote) (omega arith)
+            (rw (fin′, add-one n) at inside)
+
+        pub open-if : e ≤ p → w2 ≡ sets w (rowWords * n) (wordsIn kinds places t n (blockIn kinds n))
+        unfolding wordsIn rows list
+        open-if le =
+            at-uif kinds n h (λ l. e ≡ n + size l → w2 ≡ sets w (rowWords * n) (wordsOf place n (rows op t l))) k
+            (λ q other fin.
+            let none : q ≡ nil = empty q (omega (arith, part)) in
+            rw (none, append-nil (rows op (inUif n list nil t) list)) (first-rows nil (rw none at fin)))
+            ends
+
+        pub open-else : p < e
+            → (w3 : List ℕ)
+            → w3 ≡ sets w2 (rowWords * p) (wordsIn kinds places (record { brk = t .brk; cont = t .cont; after = e }) p (listIn kinds p))
+            → w3 ≡ sets w (rowWords * n) (wordsIn kinds places t n (blockIn kinds n))
+        unfolding wordsIn rows list
+        open-else lt w3 more =
+            at-uif kinds n h (λ l. e ≡ n + size l → w3 ≡ sets w (rowWords * n) (wordsOf place n (rows op t l))) k
+            (λ q second fin.
+            let v : Targets = inUif n list q t in
+            let fin′ : e ≡ suc n + size list + size q = omega arith in
+            let same : listIn kinds p ≡ q = rw part (sym (second (omega (arith, part)))) in
+            rw (append-nil (rows op v q))
+            (rows-then place n p (uifRow n list ∷ rows op v list) (rows op v q) w w2 w3 (first-rows q fin)
+            (omega (arith, part, length-rows op v list)) (rw (same, fin′) at more)))
+            ends
