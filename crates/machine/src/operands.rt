@@ -3,7 +3,7 @@ use crate::bank::Bank;
 use crate::parts;
 use effects::lent::word_at;
 use format::fields::Source;
-use format::fields::source_in;
+use format::fields::source_at;
 use format::kinds::sources_of;
 use words::sums::neg32;
 ghost use mathlib.Core.Path.{_≡_};
@@ -139,7 +139,7 @@ fn read_at(bytes: &[u8], at: usize, bank: &Bank, registers: &[u32]) -> [u32; 4]
     if bytes.len() < at + 5 {
         return [0, 0, 0, 0];
     }
-    let s = source_in(bytes, at);
+    let s = source_at(bytes, at);
     read(s, bank, registers)
 }
 
