@@ -4,12 +4,11 @@ use checker::Checked;
 use checker::Verdict;
 use checker::examine;
 use checker::program::Program;
+use format::files::REGISTER_WORDS;
 ghost use mathlib.Core.Path.{_≡_};
 ghost use mathlib.Core.List.{[]};
 ghost use Rattle.checker.specs.Check.{checkOf, programSeen, outcome, wordsAfter};
 ghost use Rattle.admission.specs.Admission.{lentRefusal, admissionOf};
-
-const REGISTER_WORDS: usize = 1156;
 
 const MOST_MEMORY_WORDS: usize = 16384;
 

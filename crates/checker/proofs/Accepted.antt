@@ -6,10 +6,9 @@ use mathlib.Core.List.{List}
 use Prim.Native.Nat.{ℕ, _*_, _/_, _<_, _≤_}
 use native.Mathlib.Omega.{arith}
 use lib.ListN.{length, getD}
-use Rattle.format.specs.Files.{IMM}
+use Rattle.format.specs.Files.{IMM, registersOf}
 use Rattle.format.specs.Kinds.{destinations, sources, formOf}
 use Rattle.format.specs.Records.{placeFrom}
-use Rattle.registers.specs.Sets.{registersOf}
 use Rattle.registers.proofs.Named.{destination, source, modifier-most, direct-given}
 use Rattle.registers.proofs.Named as named
 use Rattle.checker.specs.Check.{accepted, checkOf}

@@ -1,5 +1,7 @@
 // What the checker keeps of a program, after a declaration and after an immediate.
 use format::fields::Declaration;
+use format::files::CONST;
+use format::files::IN;
 use registers::sets;
 use registers::sets::Declared;
 ghost use mathlib.Core.Path.{_≡_};
@@ -60,8 +62,8 @@ pub fn with_declaration(p: Program, d: Declaration, next: usize) -> Program
 {
     let before = p.declared;
     let declared = sets::declare(before, d);
-    let inputs = reach_of(2, d, p.inputs);
-    let constants = reach_of(1, d, p.constants);
+    let inputs = reach_of(IN, d, p.inputs);
+    let constants = reach_of(CONST, d, p.constants);
     Program {
         declared,
         immediates: p.immediates,

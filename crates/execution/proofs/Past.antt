@@ -13,13 +13,12 @@ use lib.ListN.{length, getD, drop, replicate, length-replicate}
 use lib.Seq.{drop-at, drop-set-lt, getD-drop}
 use Rattle.words.specs.Word.{bit}
 use Rattle.format.specs.Fields.{word16, destinationAt}
-use Rattle.format.specs.Files.{OUT, TEMP, tempFrom, addrFrom, lentRegisters}
+use Rattle.format.specs.Files.{OUT, TEMP, tempFrom, addrFrom, lentRegisters, registersOf}
 use Rattle.format.specs.Kinds.{destinations, formOf, within}
 use Rattle.format.specs.declared.fields.Destination.{Destination}
 use Rattle.format.proofs.Ranges.{every, in-range}
 use Rattle.blocks.proofs.Inside.{Stays, reading-stays}
 use Rattle.table.specs.Prepared.{opFrom}
-use Rattle.registers.specs.Sets.{registersOf}
 use Rattle.registers.proofs.Named.{destination-inside}
 use Rattle.checker.specs.Check.{accepted, checkOf}
 use Rattle.checker.specs.Findings.{Seen}

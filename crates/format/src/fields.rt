@@ -101,6 +101,11 @@ fn destination_in(bytes: &[u8], at: usize) -> Destination
 pub fn source_at(file: &[u8], at: usize) -> Source
     ensures { λ r. ⌜ r ≡ sourceAt (now (file .entry)) at ⌝ }
 {
+    if at < file.len() {
+        if 5 <= file.len() - at {
+            return source_in(file, at);
+        }
+    }
     Source {
         file: byte_at(file, at),
         index: u16_after(file, at, 1),
@@ -110,7 +115,7 @@ pub fn source_at(file: &[u8], at: usize) -> Source
 }
 
 // The same where all five bytes are there.
-pub fn source_in(bytes: &[u8], at: usize) -> Source
+fn source_in(bytes: &[u8], at: usize) -> Source
     requires { ⌜ at + 5 ≤ length (now bytes) ⌝ }
     ensures { λ r. ⌜ r ≡ sourceAt (now (bytes .entry)) at ⌝ }
 {

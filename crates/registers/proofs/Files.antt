@@ -9,9 +9,11 @@ use native.Mathlib.Nat.{zero-div}
 use lib.Dec.{eqb, leb, ltb}
 use lib.ListN.{length, getD, replicate}
 use borrow.Author.Tests.{eqb-true, ne-eqb, leb-true, ltb-true, not-true, not-false}
+use Rattle.format.specs.Files.{registersOf}
 use Rattle.format.specs.Kinds.{within}
 use Rattle.format.specs.declared.fields.Declaration.{Declaration}
-use Rattle.registers.specs.Sets.{withAll, bit, bitIn, wordsOf, isIn, none, withRange, anyOf, registersOf, Registers}
+use Rattle.format.proofs.Sizes.{no-size}
+use Rattle.registers.specs.Sets.{withAll, bit, bitIn, wordsOf, isIn, none, withRange, anyOf, Registers}
 use Rattle.registers.specs.Rules.{declarationRule}
 use Rattle.registers.specs.declared.sets.Declared.{Declared}
 use Rattle.registers.proofs.Choices.{when-number, chosen, passed, or-false, never}
@@ -32,9 +34,6 @@ module _ (k : ℕ) (d : Declared) (f : ℕ) (r : Bool) (file : f ≡ k) where
   pub any-declared-in : (i n : ℕ) → r ≡ anyOf (bitIn (wordsOf d k)) i n → r ≡ anyOf (isIn d f) i n
   unfolding isIn
   any-declared-in i n e = rw file e
-
-pub size-in : (k f r : ℕ) → f ≡ k → r ≡ registersOf k → r ≡ registersOf f
-size-in k f r e q = rw e q
 
 -- A file's registers lie in its m words.
 pub register-in : (k m : ℕ) → registersOf k ≤ 32 * m → (ws : List ℕ) (f i : ℕ) → f ≡ k → length ws ≡ m → i < registersOf f → i < 32 * length ws
@@ -71,9 +70,6 @@ any-of-none i zero = refl
 any-of-none i (suc n) = any-of-none (suc i) n
 
 module _ (f : ℕ) (n1 : f ≡ 1 → ⊥) (n2 : f ≡ 2 → ⊥) (n3 : f ≡ 3 → ⊥) (n4 : f ≡ 4 → ⊥) (n5 : f ≡ 5 → ⊥) (n7 : f ≡ 7 → ⊥) where
-  pub no-size : 0 ≡ registersOf f
-  no-size = rw (ne-eqb f 1 n1, ne-eqb f 2 n2, ne-eqb f 3 n3, ne-eqb f 4 n4, ne-eqb f 5 n5, ne-eqb f 7 n7)
-
   no-words : (d : Declared) → wordsOf d f ≡ []
   no-words d = rw (ne-eqb f 1 n1, ne-eqb f 2 n2, ne-eqb f 3 n3, ne-eqb f 4 n4, ne-eqb f 5 n5, ne-eqb f 7 n7)
 
@@ -87,7 +83,7 @@ module _ (f : ℕ) (n1 : f ≡ 1 → ⊥) (n2 : f ≡ 2 → ⊥) (n3 : f ≡ 3 �
       rw e (sym (any-of-none i n))
 
   pub nothing-in : (d : Declared) (first last : ℕ) → last < registersOf f → isIn d ≡ withRange (isIn d) f first last
-  nothing-in d first last h = absurd (omega (arith, no-size))
+  nothing-in d first last h = absurd (omega (arith, no-size f n1 n2 n3 n4 n5 n7))
 
 -- ---- Sets as a whole
 

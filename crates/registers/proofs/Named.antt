@@ -8,13 +8,13 @@ use Prim.Native.Nat.{ℕ, zero, suc, _+_, _*_, _/_, _<_, _≤_}
 use native.Mathlib.Omega.{arith}
 use lib.Dec.{eqb, leb}
 use borrow.Author.Tests.{eqb-true, eq-eqb, ne-eqb, leb-true, ltb-true}
-use Rattle.format.specs.Files.{CONST, IN, TEMP, IMM, MEM}
+use Rattle.format.specs.Files.{CONST, IN, TEMP, IMM, MEM, registersOf}
 use Rattle.format.specs.Kinds.{destinations, sources, formOf, within}
 use Rattle.format.specs.Fields.{destinationAt, sourceAt}
 use Rattle.format.specs.declared.fields.Destination.{Destination}
 use Rattle.format.specs.declared.fields.Source.{Source}
 use Rattle.format.specs.declared.fields.Declaration.{Declaration}
-use Rattle.registers.specs.Sets.{Registers, none, withRange, registersOf}
+use Rattle.registers.specs.Sets.{Registers, none, withRange}
 use Rattle.registers.specs.Rules.{memoryKind, mayNegate, negated, indirect, destinationRule, sourceRule, allSources, allOperands, operandRules, declarationRule, CASE}
 use Rattle.registers.specs.Found.{destinationFound, sourceFound, operandsFound}
 use Rattle.registers.proofs.Choices.{never}

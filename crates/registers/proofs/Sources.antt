@@ -7,12 +7,12 @@ use Prim.Native.Nat.{ℕ, suc, _+_, _-_, _*_, _/_}
 use native.Mathlib.Omega.{arith}
 use lib.Dec.{eqb, ltb}
 use borrow.Author.Tests.{eq-eqb, ne-eqb, not-true, not-false}
-use Rattle.format.specs.Files.{ADDR, MEM}
+use Rattle.format.specs.Files.{ADDR, MEM, registersOf}
 use Rattle.format.specs.Kinds.{destinations, sources, formOf}
 use Rattle.format.specs.Fields.{destinationAt, sourceAt}
 use Rattle.format.specs.declared.fields.Destination.{Destination}
 use Rattle.format.specs.declared.fields.Source.{Source}
-use Rattle.registers.specs.Sets.{Registers, anyOf, registersOf}
+use Rattle.registers.specs.Sets.{Registers, anyOf}
 use Rattle.registers.specs.Rules.{memoryKind, destinationFile, allSources, allOperands}
 use Rattle.registers.specs.Found.{destinationFound, sourceFound, operandsFound}
 

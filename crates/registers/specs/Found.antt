@@ -5,11 +5,11 @@ use Prim.Native.Nat.{ℕ, _+_, _-_, _*_}
 use mathlib.Core.List.{List}
 use mathlib.Core.Bool.{Bool, cond, not, _&&_, _||_}
 use lib.Dec.{eqb, ltb}
-use Rattle.format.specs.Files.{ADDR, IMM, MEM}
+use Rattle.format.specs.Files.{ADDR, IMM, MEM, registersOf}
 use Rattle.format.specs.declared.fields.Destination.{Destination}
 use Rattle.format.specs.declared.fields.Source.{Source}
 use Rattle.format.specs.declared.fields.Declaration.{Declaration}
-use Rattle.registers.specs.Sets.{Registers, anyOf, registersOf}
+use Rattle.registers.specs.Sets.{Registers, anyOf}
 use Rattle.registers.specs.Rules.{indirect, memoryKind, allOperands}
 
 -- "declaration overlaps an earlier one of its file"

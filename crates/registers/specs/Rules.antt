@@ -4,13 +4,12 @@ use Prim.Native.Nat.{ℕ, zero, suc, _+_, _*_, _/_, _%_}
 use mathlib.Core.List.{List}
 use mathlib.Core.Bool.{Bool, true, cond, not, _&&_, _||_}
 use lib.Dec.{eqb, leb, ltb}
-use Rattle.format.specs.Files.{CONST, IN, OUT, TEMP, ADDR, IMM, MEM}
+use Rattle.format.specs.Files.{CONST, IN, OUT, TEMP, ADDR, IMM, MEM, registersOf}
 use Rattle.format.specs.Kinds.{destinations, sources, formOf, within}
 use Rattle.format.specs.Fields.{destinationAt, sourceAt}
 use Rattle.format.specs.declared.fields.Destination.{Destination}
 use Rattle.format.specs.declared.fields.Source.{Source}
 use Rattle.format.specs.declared.fields.Declaration.{Declaration}
-use Rattle.registers.specs.Sets.{registersOf}
 
 -- ---- Kinds that a rule names
 
@@ -99,4 +98,4 @@ operandRules kind file at = allOperands kind (destinationRule kind) (sourceRule 
 -- "A declaration names files 1-5 or 7, first at most last, last within the file."
 unfoldable pub declarationRule : Declaration → Bool
 declarationRule d =
-    (within 1 5 (d .file) || eqb (d .file) 7) && leb (d .first) (d .last) && ltb (d .last) (registersOf (d .file))
+    (within CONST ADDR (d .file) || eqb (d .file) MEM) && leb (d .first) (d .last) && ltb (d .last) (registersOf (d .file))

@@ -1,4 +1,4 @@
--- Register files, sets of registers, and the words that hold such a set, one bit a register.
+-- Sets of registers, and the words that hold such a set, one bit a register.
 -- Assumes nothing.
 use Prim.Native.Nat.{ℕ, zero, suc, _/_, _%_, _^_}
 use mathlib.Core.List.{List, []}
@@ -8,18 +8,6 @@ use lib.ListN.{getD}
 use Rattle.format.specs.Files.{CONST, IN, OUT, TEMP, ADDR, MEM}
 use Rattle.format.specs.Kinds.{within}
 use Rattle.registers.specs.declared.sets.Declared.{Declared}
-
--- "1 CONST 0-1023, 2 IN 0-31, 3 OUT 0-31, 4 TEMP 0-255, 5 ADDR 0, 6 IMM (.. not declared), 7 MEM 0." (01, Register files): how many
--- registers of a file can be declared.
-abbrev pub registersOf : ℕ → ℕ
-registersOf f =
-    cond (eqb f CONST) 1024
-    (cond (eqb f IN) 32
-    (cond (eqb f OUT) 32
-    (cond (eqb f TEMP) 256
-    (cond (eqb f ADDR) 1
-    (cond (eqb f MEM) 1
-    0)))))
 
 -- A set of registers: whether register i of file f is a member.
 abbrev pub Registers : Type 0

@@ -3,6 +3,13 @@ use crate::sets;
 use crate::sets::Declared;
 use format::fields::Destination;
 use format::fields::Source;
+use format::files::ADDR;
+use format::files::CONST;
+use format::files::IMM;
+use format::files::IN;
+use format::files::MEM;
+use format::files::OUT;
+use format::files::TEMP;
 use format::kinds::destinations_of;
 use format::kinds::sources_of;
 ghost use mathlib.Core.Path.{_≡_};
@@ -31,9 +38,9 @@ fn may_write(kind: u8, file: u8) -> bool
     ensures { λ r. ⌜ r ≡ destinationFile kind file ⌝ }
 {
     match kind {
-        0x1a => file == 5,
-        0x58 => file == 7,
-        _ => (file == 3) | (file == 4),
+        0x1a => file == ADDR,
+        0x58 => file == MEM,
+        _ => (file == OUT) | (file == TEMP),
     }
 }
 
@@ -63,11 +70,11 @@ fn source_allowed(kind: u8, s: Source) -> bool
     let modifier = s.modifier;
     let negated = modifier % 2 == 1;
     let indirect = modifier / 2 != 0;
-    ((file == 1) | (file == 2) | (file == 4) | (file == 6))
+    ((file == CONST) | (file == IN) | (file == TEMP) | (file == IMM))
         & (modifier <= 9)
         & (!negated | may_negate(kind))
-        & (!indirect | ((file == 1) | (file == 4)))
-        & ((kind != 0x92) | ((file == 6) & (modifier == 0)))
+        & (!indirect | ((file == CONST) | (file == TEMP)))
+        & ((kind != 0x92) | ((file == IMM) & (modifier == 0)))
 }
 
 // Whether the sources of an instruction of a kind at a place keep the rules.
@@ -103,9 +110,9 @@ fn source_found(d: Declared, words: usize, s: Source) -> bool
     let file = s.file;
     let index = s.index as usize;
     if s.modifier / 2 != 0 {
-        return sets::is_declared(d, 5, 0) & sets::is_file_declared(d, file);
+        return sets::is_declared(d, ADDR, 0) & sets::is_file_declared(d, file);
     }
-    if file == 6 {
+    if file == IMM {
         return 4 * index < words;
     }
     sets::is_declared(d, file, index)
@@ -147,5 +154,6 @@ fn registers_found(kind: u8, d: Declared, words: usize, file: &[u8], at: u32) ->
 pub fn operands_found(kind: u8, d: Declared, words: usize, file: &[u8], at: u32) -> bool
     ensures { λ r. ⌜ r ≡ operandsFound kind (isIn d) words (now (file .entry)) at ⌝ }
 {
-    registers_found(kind, d, words, file, at) & (!is_memory_kind(kind) | sets::is_declared(d, 7, 0))
+    registers_found(kind, d, words, file, at)
+        & (!is_memory_kind(kind) | sets::is_declared(d, MEM, 0))
 }

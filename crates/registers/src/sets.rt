@@ -1,11 +1,19 @@
 // Which registers of each file are declared, one bit each, in a struct of word arrays that goes by value; and declarations,
 // which name registers of a file.
 use format::fields::Declaration;
+use format::files::ADDR;
+use format::files::CONST;
+use format::files::IN;
+use format::files::MEM;
+use format::files::OUT;
+use format::files::TEMP;
+use format::files::registers_of;
 ghost use mathlib.Core.Path.{_≡_};
 ghost use mathlib.Core.Bool.{cond};
 ghost use Prim.Native.Nat.{_<_, _≤_, _+_, _-_, _*_};
 ghost use lib.ListN.{length};
-ghost use Rattle.registers.specs.Sets.{bit, bitIn, isIn, none, withOne, withAll, withRange, anyOf, registersOf};
+ghost use Rattle.format.specs.Files.{registersOf};
+ghost use Rattle.registers.specs.Sets.{bit, bitIn, isIn, none, withOne, withAll, withRange, anyOf};
 ghost use Rattle.registers.specs.Rules.{declarationRule};
 ghost use Rattle.registers.specs.Found.{overlaps};
 
@@ -29,21 +37,6 @@ pub fn empty() -> Declared
         temps: [0; 8],
         addr: [0; 1],
         mem: [0; 1],
-    }
-}
-
-// How many registers of a file can be declared.
-fn registers_of(file: u8) -> usize
-    ensures { λ r. ⌜ r ≡ registersOf file ⌝ }
-{
-    match file {
-        1 => 1024,
-        2 => 32,
-        3 => 32,
-        4 => 256,
-        5 => 1,
-        7 => 1,
-        _ => 0,
     }
 }
 
@@ -122,12 +115,12 @@ pub fn is_declared(d: Declared, file: u8, index: usize) -> bool
     ensures { λ r. ⌜ r ≡ isIn d file index ⌝ }
 {
     match file {
-        1 => has(&d.consts, index),
-        2 => has(&d.ins, index),
-        3 => has(&d.outs, index),
-        4 => has(&d.temps, index),
-        5 => has(&d.addr, index),
-        7 => has(&d.mem, index),
+        CONST => has(&d.consts, index),
+        IN => has(&d.ins, index),
+        OUT => has(&d.outs, index),
+        TEMP => has(&d.temps, index),
+        ADDR => has(&d.addr, index),
+        MEM => has(&d.mem, index),
         _ => false,
     }
 }
@@ -137,12 +130,12 @@ pub fn is_file_declared(d: Declared, file: u8) -> bool
     ensures { λ r. ⌜ r ≡ anyOf (isIn d file) 0 (registersOf file) ⌝ }
 {
     match file {
-        1 => has_some(&d.consts),
-        2 => has_some(&d.ins),
-        3 => has_some(&d.outs),
-        4 => has_some(&d.temps),
-        5 => has(&d.addr, 0),
-        7 => has(&d.mem, 0),
+        CONST => has_some(&d.consts),
+        IN => has_some(&d.ins),
+        OUT => has_some(&d.outs),
+        TEMP => has_some(&d.temps),
+        ADDR => has(&d.addr, 0),
+        MEM => has(&d.mem, 0),
         _ => false,
     }
 }
@@ -152,7 +145,7 @@ pub fn declaration_allowed(d: Declaration) -> bool
     ensures { λ r. ⌜ r ≡ declarationRule d ⌝ }
 {
     let file = d.file;
-    (((1 <= file) & (file <= 5)) | (file == 7))
+    (((CONST <= file) & (file <= ADDR)) | (file == MEM))
         & (d.first <= d.last)
         & ((d.last as usize) < registers_of(file))
 }
@@ -165,12 +158,12 @@ pub fn overlaps(d: Declared, more: Declaration) -> bool
     let last = more.last;
     let file = more.file;
     match file {
-        1 => has_any(&d.consts, first, last),
-        2 => has_any(&d.ins, first, last),
-        3 => has_any(&d.outs, first, last),
-        4 => has_any(&d.temps, first, last),
-        5 => has_any(&d.addr, first, last),
-        7 => has_any(&d.mem, first, last),
+        CONST => has_any(&d.consts, first, last),
+        IN => has_any(&d.ins, first, last),
+        OUT => has_any(&d.outs, first, last),
+        TEMP => has_any(&d.temps, first, last),
+        ADDR => has_any(&d.addr, first, last),
+        MEM => has_any(&d.mem, first, last),
         _ => false,
     }
 }
@@ -182,37 +175,37 @@ fn with_range(d: Declared, file: u8, first: u16, last: u16) -> Declared
 {
     let mut e = d;
     match file {
-        1 => {
+        CONST => {
             let mut words = d.consts;
             set_bits(&mut words, first, last);
             e.consts = words;
             e
         }
-        2 => {
+        IN => {
             let mut words = d.ins;
             set_bits(&mut words, first, last);
             e.ins = words;
             e
         }
-        3 => {
+        OUT => {
             let mut words = d.outs;
             set_bits(&mut words, first, last);
             e.outs = words;
             e
         }
-        4 => {
+        TEMP => {
             let mut words = d.temps;
             set_bits(&mut words, first, last);
             e.temps = words;
             e
         }
-        5 => {
+        ADDR => {
             let mut words = d.addr;
             set_bits(&mut words, first, last);
             e.addr = words;
             e
         }
-        7 => {
+        MEM => {
             let mut words = d.mem;
             set_bits(&mut words, first, last);
             e.mem = words;

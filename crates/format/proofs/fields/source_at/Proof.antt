@@ -1,4 +1,4 @@
--- A source, field by field.
+-- A source whose bytes are all there, or field by field.
 -- Assumes nothing.
 use borrow.Author.Needs.{needs}
 use Rattle.format.proofs.Readers.{source-is}
@@ -6,4 +6,8 @@ use Rattle.format.proofs.fields.source_at.Statement.{statement}
 use Rattle.format.proofs.fields.source_at.Tie as tie
 
 pub source-at-spec : {M : Type 1} → statement M
-source-at-spec = tie.close (tie.spec (search needs) (search needs) (search needs) (search needs) (λ c. search (needs, source-is)))
+source-at-spec =
+    tie.close
+    (tie.spec
+    (search needs) (search needs) (λ c. search needs) (search needs) (search needs) (search needs) (search needs)
+    (λ c. search (needs, source-is)))

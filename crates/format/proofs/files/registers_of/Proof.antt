@@ -1,8 +1,8 @@
 -- Each arm is the size of its file.
 use borrow.Author.Needs.{needs}
-use Rattle.registers.proofs.Files.{no-size, size-in}
-use Rattle.registers.proofs.sets.registers_of.Statement.{statement}
-use Rattle.registers.proofs.sets.registers_of.Tie as tie
+use Rattle.format.proofs.Sizes.{no-size, size-in}
+use Rattle.format.proofs.files.registers_of.Statement.{statement}
+use Rattle.format.proofs.files.registers_of.Tie as tie
 
 pub registers-of-spec : {M : Type 1} → statement M
 registers-of-spec =
