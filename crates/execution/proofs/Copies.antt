@@ -2,25 +2,55 @@
 -- Assumes nothing.
 use mathlib.Core.Path.{_≡_, refl, sym, ap, _∙_}
 use mathlib.Core.List.{List, [], _∷_, _++_}
-use Prim.Native.Nat.{ℕ, _+_, _-_, _<_, _≤_}
+use mathlib.Core.Bool.{Bool, true, false}
+use Prim.Native.Nat.{ℕ, _+_, _-_, _<_, _≤_, min}
 use native.Mathlib.Omega.{arith}
+use native.Mathlib.Nat.{min-eq-left, min-eq-right, min-le-right}
 use native.Mathlib.Numerals.{add-one}
 use borrow.Author.Fill.{fill-more}
-use lib.ListN.{length, getD, set, take, drop, replicate, length-append, List·getD-append}
+use borrow.Author.Tests.{ltb-true, ltb-false}
+use lib.Dec.{ltb}
+use lib.ListN.{length, getD, set, take, drop, replicate, length-append, length-take, drop-of-length-le, List·getD-append}
 use lib.Seq.{take-all, take-suc, take-suc-set, getD-append-add}
+use Rattle.format.specs.Files.{lentRegisters}
 use Rattle.execution.specs.Program.{cleared}
 
 -- ---- Clearing
 
-module _ (r₀ r : List ℕ) (i : ℕ) (done : r ≡ replicate i 0 ++ drop i r₀) where
-  pub clear-more : i < 1156 → 1156 ≤ length r₀ → set r i 0 ≡ replicate (i + 1) 0 ++ drop (i + 1) r₀
-  clear-more h room = ap (λ (l : List ℕ). set l i 0) done ∙ fill-more i 0 r₀ (omega arith)
+pub all-registers : (n : ℕ) → lentRegisters ≤ n → 1156 ≡ min lentRegisters n
+all-registers n h = sym (min-eq-left h)
 
-  pub clear-end : i ≤ 1156 → 1156 ≤ i → r ≡ cleared r₀
+pub fewer-registers : (n : ℕ) → n < lentRegisters → n ≡ min lentRegisters n
+fewer-registers n h = sym (min-eq-right (omega arith))
+
+pub registers-fit : (n end : ℕ) → end ≡ min lentRegisters n → end ≤ n
+registers-fit n end e = omega (arith, min-le-right lentRegisters n)
+
+-- What is dropped past the last of some words is nothing.
+drop-least : (n : ℕ) (l : List ℕ) → drop (min n (length l)) l ≡ drop n l
+drop-least n l = by (ltb (length l) n) refl
+  where
+    by : (t : Bool) → ltb (length l) n ≡ t → drop (min n (length l)) l ≡ drop n l
+    by true e =
+        let less : length l < n = ltb-true (length l) n e in
+        rw (min-eq-right {n = length l} {m = n} (omega arith)) (drop-of-length-le l {i = length l} (omega arith) ∙ sym (drop-of-length-le l {i = n} (omega arith)))
+    by false e =
+        let more : n ≤ length l = ltb-false (length l) n e in
+        rw (min-eq-left {n = n} {m = length l} (omega arith))
+
+module _ (r₀ r : List ℕ) (i end : ℕ) (done : r ≡ replicate i 0 ++ drop i r₀) (ends : end ≡ min lentRegisters (length r₀)) where
+  pub clear-more : i < end → set r i 0 ≡ replicate (i + 1) 0 ++ drop (i + 1) r₀
+  clear-more h =
+      ap (λ (l : List ℕ). set l i 0) done ∙ fill-more i 0 r₀ (omega (arith, min-le-right lentRegisters (length r₀)))
+
+  pub clear-end : i ≤ end → end ≤ i → r ≡ cleared r₀
   unfolding cleared
   clear-end h k =
-      let e : i ≡ 1156 = omega arith in
-      done ∙ ap (λ (n : ℕ). replicate n 0 ++ drop n r₀) e
+      let all : i ≡ min lentRegisters (length r₀) = omega arith in
+      done
+      ∙ ap (λ (n : ℕ). replicate n 0 ++ drop n r₀) all
+      ∙ ap (λ (l : List ℕ). replicate (min lentRegisters (length r₀)) 0 ++ l) (drop-least lentRegisters r₀)
+      ∙ ap (λ (n : ℕ). replicate n 0 ++ drop lentRegisters r₀) (sym (length-take lentRegisters r₀))
 
 -- ---- One list behind the other
 

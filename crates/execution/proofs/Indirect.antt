@@ -16,7 +16,7 @@ use Rattle.registers.specs.Sets.{isIn}
 use Rattle.registers.specs.Sets as sets
 use Rattle.machine.specs.Bank.{envIn}
 use Rattle.machine.specs.Operands.{bitIn, declaredIn, envWith, wordIn}
-use Rattle.execution.specs.Program.{askedIndirectly}
+use Rattle.execution.specs.Steps.{askedIndirectly, bankEnv}
 use Rattle.execution.proofs.Copies.{copy-end}
 
 -- Past the words there is no bit.
@@ -66,9 +66,10 @@ module _ (d : Declared) (lc : length (d .consts) ≡ 32) (lt : length (d .temps)
 
 pub bank-is : (d : Declared) (bank bits words inputs constants : List ℕ)
     → declaredIn bits ≡ askedIndirectly (isIn d)
-    → envIn bank ≡ envWith (declaredIn bits) words inputs constants
-    → envIn bank ≡ envWith (askedIndirectly (isIn d)) words inputs constants
-bank-is d bank bits words inputs constants asked gathered = gathered ∙ ap (λ (t : ℕ → ℕ → Bool). envWith t words inputs constants) asked
+    → envIn bank ≡ envWith (declaredIn bits) words (take 128 inputs) (take 4096 constants)
+    → envIn bank ≡ bankEnv (isIn d) words inputs constants
+bank-is d bank bits words inputs constants asked gathered =
+    gathered ∙ ap (λ (t : ℕ → ℕ → Bool). envWith t words (take 128 inputs) (take 4096 constants)) asked
 
 -- ---- Words with nothing but 0 after them
 

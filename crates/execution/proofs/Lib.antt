@@ -2,5 +2,4 @@ pub mod Loop
 pub mod Copies
 pub mod Indirect
 pub mod Rows
-pub mod Demand
-pub mod Past
+pub mod Alike

@@ -1,11 +1,9 @@
 -- A program that the check took: its nested lists, what its instructions do, and what carrying it out comes to (demand 3).
 -- Assumes nothing.
 use Prim.Native.Nat.{ℕ}
-use mathlib.Core.Bool.{Bool, _&&_, _||_}
 use mathlib.Core.List.{List, _++_}
-use lib.Dec.{eqb}
-use lib.ListN.{drop, replicate}
-use Rattle.format.specs.Files.{CONST, TEMP, lentRegisters}
+use lib.ListN.{length, take, drop, replicate}
+use Rattle.format.specs.Files.{lentRegisters}
 use Rattle.format.specs.Records.{placeFrom}
 use Rattle.blocks.specs.Control.{Machine}
 use Rattle.blocks.specs.Lists.{Items, nestedLists}
@@ -23,19 +21,16 @@ placeOf s file = placeFrom file (s .start)
 abbrev pub listsOf : Seen → List ℕ → Items
 listsOf s file = nestedLists (opFrom file (s .start)) (s .instructions)
 
--- "Indirect only for CONST and TEMP" (01, Register files): of these two files alone an operand asks what is declared.
-abbrev pub askedIndirectly : (ℕ → ℕ → Bool) → ℕ → ℕ → Bool
-askedIndirectly declared f i = (eqb f CONST || eqb f TEMP) && declared f i
-
+-- What its operands read: the lent inputs and constants, its immediates, and which registers it declares.
 abbrev pub envOf : Seen → List ℕ → List ℕ → Env
-envOf s inputs constants = envWith (askedIndirectly (s .declared)) (s .immediates) inputs constants
+envOf s inputs constants = envWith (s .declared) (s .immediates) inputs constants
 
 abbrev pub programOf : Seen → List ℕ → List ℕ → List ℕ → Machine State
 programOf s file inputs constants = machineOf (envOf s inputs constants) file (placeOf s file)
 
 -- "A run checks, prepares, clears these and no word past them, then carries out." (01, Register files)
 unfoldable pub cleared : List ℕ → List ℕ
-cleared registers = replicate lentRegisters 0 ++ drop lentRegisters registers
+cleared registers = replicate (length (take lentRegisters registers)) 0 ++ drop lentRegisters registers
 
 -- The block reading from a state. "It is given the file, inputs, constants, memory and budget, and nothing of the table."
 unfoldable pub carriedOut : Seen → List ℕ → List ℕ → List ℕ → ℕ → State → Reading State

@@ -1,26 +1,33 @@
 // What is lent to a run: the registers cleared, and what is read and never written gathered in one bank.
+use format::files::REGISTER_WORDS;
 use machine::bank::Bank;
 use machine::bank::gather;
 use registers::sets::Declared;
 ghost use mathlib.Core.Path.{_≡_};
 ghost use mathlib.Core.List.{_++_};
-ghost use Prim.Native.Nat.{_≤_, _<_};
-ghost use lib.ListN.{length, getD};
+ghost use Prim.Native.Nat.{_<_, min};
+ghost use lib.ListN.{getD};
 ghost use Rattle.format.specs.Files.{lentRegisters};
 ghost use Rattle.registers.specs.Sets.{isIn};
 ghost use Rattle.machine.specs.Bank.{envIn};
-ghost use Rattle.machine.specs.Operands.{declaredIn, envWith};
-ghost use Rattle.execution.specs.Program.{cleared, askedIndirectly};
+ghost use Rattle.machine.specs.Operands.{declaredIn};
+ghost use Rattle.execution.specs.Program.{cleared};
+ghost use Rattle.execution.specs.Steps.{askedIndirectly, bankEnv};
 
-const REGISTER_WORDS: usize = 1156;
+// How many of so many lent words are words of registers.
+fn register_words(lent: usize) -> usize
+    ensures { λ r. ⌜ r ≡ min lentRegisters lent ⌝ }
+{
+    if REGISTER_WORDS <= lent { REGISTER_WORDS } else { lent }
+}
 
 // Sets the register words to 0, and no word past them.
 pub fn clear(registers: &mut [u32])
-    requires { ⌜ lentRegisters ≤ length (now registers) ⌝ }
     ensures { λ r. ⌜ now (registers .exit) ≡ cleared (now (registers .entry)) ⌝ }
 {
+    let end = register_words(registers.len());
     let mut i: usize = 0;
-    while i < REGISTER_WORDS {
+    while i < end {
         registers[i] = 0;
         i += 1;
     }
@@ -57,7 +64,7 @@ pub fn bank_of(
     inputs: &[u32],
     constants: &[u32],
 ) -> Bank
-    ensures { λ r. ⌜ envIn r ≡ envWith (askedIndirectly (isIn declared)) (now (immediates .entry)) (now (inputs .entry)) (now (constants .entry)) ⌝ }
+    ensures { λ r. ⌜ envIn r ≡ bankEnv (isIn declared) (now (immediates .entry)) (now (inputs .entry)) (now (constants .entry)) ⌝ }
 {
     let bits = declared_words(declared);
     gather(&bits, immediates, inputs, constants)

@@ -14,5 +14,5 @@ pub enum Stop {
     // END was carried out.
     Ended(Report),
     // The budget was spent; the next instruction's number.
-    Halted(Report, u32),
+    Halted(Report, usize),
 }

@@ -1,17 +1,17 @@
 // Carrying out a program by the rows of its table, step by step.
 use crate::Report;
 use crate::Stop;
-use crate::lent;
+use blocks::MOST_INSTRUCTIONS;
 use blocks::Next;
 use machine::bank::Bank;
 use machine::step::step;
+ghost use mathlib.Core.Path.{_≡_};
 ghost use Rattle.effects.specs.Effect.{state};
 ghost use Rattle.machine.specs.Bank.{envIn};
-ghost use Rattle.execution.specs.Steps.{StaysInside, Came, MayRun};
-ghost use Rattle.execution.specs.Program.{cleared};
+ghost use Rattle.execution.specs.Steps.{reached, byRows};
 
-// Carries out instructions by the table's rows until END or until the budget is spent.
-fn carry_out(
+// Carries out instructions by the table's rows, from the first on, until END or until the budget is spent.
+pub fn carry_out(
     file: &[u8],
     rows: &[u32],
     bank: &Bank,
@@ -19,12 +19,15 @@ fn carry_out(
     memory: &mut [u32],
     budget: u32,
 ) -> Stop
-    requires { ⌜ StaysInside (now file) (now rows) (envIn (now bank)) (state (now registers) (now memory)) ⌝ }
-    ensures { λ r. ⌜ Came (now (file .entry)) (now (rows .entry)) (envIn (now (bank .entry))) budget (state (now (registers .entry)) (now (memory .entry))) r (state (now (registers .exit)) (now (memory .exit))) ⌝ }
+    ensures { λ r. ⌜ reached r (state (now (registers .exit)) (now (memory .exit))) ≡ byRows (now (file .entry)) (now (rows .entry)) (envIn (now (bank .entry))) budget 0 0 (state (now (registers .entry)) (now (memory .entry))) ⌝ }
 {
     let mut steps: u32 = 0;
     let mut n: usize = 0;
     while steps < budget {
+        // Right rows lead to no such number.
+        if MOST_INSTRUCTIONS <= n {
+            return Stop::Halted(Report { steps }, n);
+        }
         let next = step(file, rows, n as u32, bank, registers, memory);
         match next {
             Next::At(m) => {
@@ -34,21 +37,5 @@ fn carry_out(
             Next::Ended => return Stop::Ended(Report { steps: steps + 1 }),
         }
     }
-    Stop::Halted(Report { steps }, n as u32)
-}
-
-// Clears the registers and carries out.
-pub fn run_rows(
-    file: &[u8],
-    rows: &[u32],
-    bank: &Bank,
-    registers: &mut [u32],
-    memory: &mut [u32],
-    budget: u32,
-) -> Stop
-    requires { ⌜ MayRun (now file) (now rows) (now bank) (now registers) (now memory) ⌝ }
-    ensures { λ r. ⌜ Came (now (file .entry)) (now (rows .entry)) (envIn (now (bank .entry))) budget (state (cleared (now (registers .entry))) (now (memory .entry))) r (state (now (registers .exit)) (now (memory .exit))) ⌝ }
-{
-    lent::clear(registers);
-    carry_out(file, rows, bank, registers, memory, budget)
+    Stop::Halted(Report { steps }, n)
 }

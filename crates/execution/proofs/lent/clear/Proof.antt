@@ -5,25 +5,27 @@ use mathlib.Core.List.{_++_}
 use Prim.Native.Nat.{ℕ, _-_, _≤_}
 use borrow.Author.Needs.{needs}
 use lib.ListN.{length, drop, replicate}
-use Rattle.execution.proofs.Copies.{clear-more, clear-end}
+use Rattle.execution.proofs.Copies.{registers-fit, clear-more, clear-end}
 use Rattle.execution.proofs.lent.clear.Statement.{statement}
 use Rattle.execution.proofs.lent.clear.Tie as tie
 
 abbrev Inv-loop : tie.InvT-loop
-Inv-loop registers₀ i₀ registers i =
-    (i ≤ 1156)
-    × (1156 ≤ length registers₀)
+Inv-loop registers₀ end i₀ registers i =
+    (i ≤ end)
+    × (end ≤ length registers₀)
     × (length registers ≡ length registers₀)
     × (registers ≡ replicate i 0 ++ drop i registers₀)
 
 abbrev μ-loop : tie.MeasureT-loop
-μ-loop registers₀ i₀ registers i = 1156 - i
+μ-loop registers₀ end i₀ registers i = end - i
 
 pub clear-spec : {M : Type 1} → statement M
 clear-spec =
     tie.close
     (tie.spec Inv-loop μ-loop
-    (λ c. (search needs, search needs, refl, refl)) (search needs) (search needs) (search needs) (search needs)
+    (search needs)
+    (λ c. (search needs, search (needs, registers-fit), refl, refl))
+    (search needs) (search needs) (search needs) (search needs)
     (λ c. search (needs, clear-more))
     (search needs)
     (λ c. search (needs, clear-end)))

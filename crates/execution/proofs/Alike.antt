@@ -1,0 +1,112 @@
+-- No accepted program can tell the bank from what is lent: a direct operand names a register within its file, an indirect one a
+-- declared register of CONST or TEMP, and the bank has the words of all of these.
+-- Assumes nothing.
+use mathlib.Core.Path.{_≡_, refl, sym, ap, _∙_, subst}
+use mathlib.Core.Bool.{Bool, true, false, cond, _&&_, _||_}
+use mathlib.Core.List.{List}
+use Prim.Native.Nat.{ℕ, _+_, _-_, _*_, _/_, _<_}
+use native.Mathlib.Omega.{arith}
+use borrow.Author.Tests.{eqb-true, eqb-false}
+use lib.Dec.{eqb}
+use lib.IntN.{ℤ, pos, negsuc, _+ℤ_}
+use lib.ListN.{take}
+use lib.Seq.{getD-take}
+use Rattle.words.specs.Word.{signed}
+use Rattle.format.specs.Files.{CONST, IN, TEMP, IMM, addrFrom, registersOf}
+use Rattle.format.specs.declared.fields.Source.{Source}
+use Rattle.registers.proofs.Named.{Inside}
+use Rattle.effects.specs.Destinations.{components}
+use Rattle.machine.specs.Operands.{Env, wordIn, envWith, fourFrom, registerWords, ifDeclared, registerOf, taken, takenAt, sourceOf}
+use Rattle.machine.specs.declared.operands.Place.{Place}
+use Rattle.machine.specs.declared.operands.Place.the-variants.{Register, Nowhere}
+use Rattle.execution.specs.Steps.{askedIndirectly, bankEnv}
+
+-- ---- Words
+
+-- Of the words of m registers those of register n are the same.
+four-same : (l : List ℕ) (m n : ℕ) → n < m → fourFrom (wordIn (take (4 * m) l)) (4 * n) ≡ fourFrom (wordIn l) (4 * n)
+unfolding components
+four-same l m n h =
+    rw (
+      getD-take (4 * m) l (4 * n + 0) 0 (omega arith),
+      getD-take (4 * m) l (4 * n + 1) 0 (omega arith),
+      getD-take (4 * m) l (4 * n + 2) 0 (omega arith),
+      getD-take (4 * m) l (4 * n + 3) 0 (omega arith),
+    )
+
+module _ (declared : ℕ → ℕ → Bool) (immediates inputs constants r : List ℕ) where
+  abbrev given : Env
+  given = envWith declared immediates inputs constants
+
+  abbrev banked : Env
+  banked = bankEnv declared immediates inputs constants
+
+  words-same : (f n : ℕ) → ((f ≡ IMM → ⊥) → n < registersOf f) → registerWords banked r f n ≡ registerWords given r f n
+  unfolding registerWords
+  words-same f n h = by (eqb f CONST) refl (eqb f IN) refl
+    where
+      by : (t : Bool) → eqb f CONST ≡ t → (u : Bool) → eqb f IN ≡ u → registerWords banked r f n ≡ registerWords given r f n
+      by true e u q =
+          let is : f ≡ CONST = eqb-true f CONST e in
+          let below : n < 1024 = subst (λ (k : ℕ). n < registersOf k) is (h (λ imm. omega arith)) in
+          rw is (four-same constants 1024 n below)
+      by false e true q =
+          let is : f ≡ IN = eqb-true f IN q in
+          let below : n < 32 = subst (λ (k : ℕ). n < registersOf k) is (h (λ imm. omega arith)) in
+          rw is (four-same inputs 32 n below)
+      by false e false q = rw (e, q)
+
+  -- ---- Registers
+
+  declared-same : (f : ℕ) (z : ℤ) → (eqb f CONST || eqb f TEMP) ≡ true → ifDeclared (askedIndirectly declared) f z ≡ ifDeclared declared f z
+  declared-same f (pos n) h = rw h
+  declared-same f (negsuc n) h = refl
+
+  -- A register that is found by its sum is declared.
+  found-declared : (f : ℕ) (z : ℤ) (n : ℕ) → ifDeclared declared f z ≡ Register n → declared f n ≡ true
+  found-declared f (pos k) n e = by (declared f k) refl
+    where
+      by : (t : Bool) → declared f k ≡ t → declared f n ≡ true
+      by true q =
+          let there : Register k ≡ Register n = rw q at e in
+          let same : k ≡ n = cc in
+          rw (← same) q
+      by false q = let z : _≡_ {A = ℕ} 0 1 = cc in absurd (omega arith)
+  found-declared f (negsuc k) n e = let z : _≡_ {A = ℕ} 0 1 = cc in absurd (omega arith)
+
+  -- ---- One source
+
+  module _ (s : Source)
+      (inside : Inside declared)
+      (direct : s .modifier / 2 ≡ 0 → (s .file ≡ IMM → ⊥) → s .index < registersOf (s .file))
+      (steered : (s .modifier / 2 ≡ 0 → ⊥) → (eqb (s .file) CONST || eqb (s .file) TEMP) ≡ true)
+    where
+      abbrev sum : ℤ
+      sum = pos (s .index) +ℤ signed 32 (wordIn r (addrFrom - 1 + s .modifier / 2))
+
+      place-same : registerOf (askedIndirectly declared) r s ≡ registerOf declared r s
+      unfolding registerOf
+      place-same = by (eqb (s .modifier / 2) 0) refl
+        where
+          by : (t : Bool) → eqb (s .modifier / 2) 0 ≡ t
+              → cond t (Register (s .index)) (ifDeclared (askedIndirectly declared) (s .file) sum) ≡ cond t (Register (s .index)) (ifDeclared declared (s .file) sum)
+          by true e = refl
+          by false e = declared-same (s .file) sum (steered (eqb-false _ _ e))
+
+      place-inside : (n : ℕ) → registerOf declared r s ≡ Register n → (s .file ≡ IMM → ⊥) → n < registersOf (s .file)
+      unfolding registerOf
+      place-inside n there other = by (eqb (s .modifier / 2) 0) refl there
+        where
+          by : (t : Bool) → eqb (s .modifier / 2) 0 ≡ t → cond t (Register (s .index)) (ifDeclared declared (s .file) sum) ≡ Register n → n < registersOf (s .file)
+          by true e q =
+              let same : s .index ≡ n = cc in
+              subst (λ (k : ℕ). k < registersOf (s .file)) same (direct (eqb-true _ _ e) other)
+          by false e q = inside .below (s .file) n (found-declared (s .file) sum n q)
+
+      pub source-same : sourceOf banked r s ≡ sourceOf given r s
+      unfolding sourceOf
+      source-same = ap (takenAt banked r s) place-same ∙ by (registerOf declared r s) refl
+        where
+          by : (p : Place) → registerOf declared r s ≡ p → takenAt banked r s p ≡ takenAt given r s p
+          by (Register n) e = ap (λ (q : List ℕ). taken q s) (words-same (s .file) n (place-inside n e))
+          by Nowhere e = refl
