@@ -3,7 +3,7 @@
 use Rattle.effects.specs.Effect.{Family, WORDS, WIDE-UNARY, LOAD, WIDE, STORE, ATOMIC, ATOMCAS, NONE, effectOf, exchange, familyOf, result, state, xOf}
 use Rattle.effects.specs.Destinations.{State, components, firstWord, masked, placed}
 use Rattle.words.specs.Word.{cas}
-use Rattle.effects.specs.Arithmetic.{atomic, wideOf, wideUnaryOf}
+use Rattle.results.specs.Arithmetic.{atomic, wideOf, wideUnaryOf}
 use Rattle.effects.specs.Memory.{loaded, loadedFrom, stored, storedFrom}
 use Rattle.format.proofs.Ranges.{every, in-range}
 use Prim.Native.Nat.{_-_, _<_, _≤_, ℕ}

@@ -2,7 +2,8 @@
 -- Assumes nothing.
 use Rattle.effects.specs.Destinations.{components, firstWord, ifMasked, masked, placed}
 use Rattle.effects.specs.Memory.{loaded, loadedFrom, stored, storedFrom}
-use Rattle.effects.specs.Arithmetic.{sourceWord, resultWord, resultWords}
+use Rattle.results.specs.Arithmetic.{resultWord}
+use Rattle.effects.specs.Sources.{sourceWord, resultWords}
 use Rattle.words.specs.Word.{bit}
 use Prim.Native.Nat.{_%_, _*_, _+_, _/_, _<_, _≤_, suc, zero, ℕ}
 use mathlib.Core.Path.{_∙_, _≡_, ap, refl, sym}

@@ -10,7 +10,8 @@ use Rattle.format.specs.Kinds.{within}
 use Rattle.format.specs.declared.fields.Destination.{Destination}
 use Rattle.effects.specs.Destinations.{State, components, written}
 use Rattle.effects.specs.Memory.{loaded, stored, loadedFrom, storedFrom}
-use Rattle.effects.specs.Arithmetic.{sourceWord, resultWords, atomic, wideUnaryOf, wideOf}
+use Rattle.results.specs.Arithmetic.{atomic, wideUnaryOf, wideOf}
+use Rattle.effects.specs.Sources.{sourceWord, resultWords}
 
 abbrev pub state : List ℕ → List ℕ → State
 state r m = record { registers = r; memory = m }

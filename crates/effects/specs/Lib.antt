@@ -1,4 +1,4 @@
 pub mod Destinations
 pub mod Memory
-pub mod Arithmetic
+pub mod Sources
 pub mod Effect

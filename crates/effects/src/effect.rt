@@ -1,28 +1,26 @@
 // The effect of an instruction on registers and memory: a match on the kind with ranges.
-use crate::arithmetic::atomic_word;
-use crate::arithmetic::write_words;
 use crate::destinations::first_word;
 use crate::destinations::write;
 use crate::memory::load;
 use crate::memory::load_from;
 use crate::memory::store;
 use crate::memory::store_from;
+use crate::result_words::write_words;
 use crate::sources::source;
 use crate::sources::source_word;
-use crate::wide::wide_unary_words;
-use crate::wide::wide_words;
 use format::fields::Destination;
+use results::atomic_word;
+use results::wide::wide_unary_words;
+use results::wide::wide_words;
 use words::order::cas32;
 ghost use mathlib.Core.Path.{_≡_};
-ghost use Prim.Native.Nat.{_<_, _≤_};
 ghost use Rattle.words.specs.Word.{cas};
 ghost use Rattle.effects.specs.Memory.{loaded, stored};
-ghost use Rattle.effects.specs.Arithmetic.{atomic as atomicOf};
+ghost use Rattle.results.specs.Arithmetic.{atomic as atomicOf};
 ghost use Rattle.effects.specs.Effect.{state, familyOf, effectOf};
 
 // Stores what an atomic of this kind makes of the old word and b, and gives the old word.
 fn atomic(kind: u8, memory: &mut [u32], address: u32, b: u32) -> u32
-    requires { ⌜ (0x56 ≤ kind) × (kind < 0x60) ⌝ }
     ensures { λ r. ⌜ (r ≡ loaded (now (memory .entry)) address) × (now (memory .exit) ≡ stored (now (memory .entry)) address (atomicOf kind r b)) ⌝ }
 {
     let old = load(memory, address as usize);

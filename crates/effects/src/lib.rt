@@ -1,9 +1,8 @@
-// What an instruction does with its sources: results, destinations and memory, by its kind.
+// What an instruction does with its sources: destinations and memory, by its kind.
 
-mod arithmetic;
 mod destinations;
 pub mod effect;
 pub mod lent;
 mod memory;
+mod result_words;
 mod sources;
-mod wide;

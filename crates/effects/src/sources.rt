@@ -3,7 +3,7 @@ ghost use mathlib.Core.Path.{_≡_};
 ghost use mathlib.Core.List.{[]};
 ghost use Prim.Native.Nat.{_<_};
 ghost use lib.ListN.{getD};
-ghost use Rattle.effects.specs.Arithmetic.{sourceWord};
+ghost use Rattle.effects.specs.Sources.{sourceWord};
 
 // Source j.
 pub fn source(sources: &[[u32; 4]; 4], j: usize) -> [u32; 4]

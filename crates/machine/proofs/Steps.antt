@@ -1,6 +1,6 @@
 -- A step: each arm of the match is the step of the table's row, by the control instruction that the kind is.
 -- Assumes nothing.
-use Rattle.effects.specs.Arithmetic.{sourceWord}
+use Rattle.effects.specs.Sources.{sourceWord}
 use Rattle.effects.specs.Destinations.{State}
 use Rattle.effects.specs.Effect.{NONE, effectOf, familyOf, state}
 use Rattle.effects.proofs.Effects.{kindIn, same-family}

@@ -17,8 +17,9 @@ use Rattle.registers.specs.Found.{sourceFound, operandsFound}
 use Rattle.registers.specs.Rules.{destinationRule, sourceRule, allOperands, declarationRule}
 use Rattle.checker.specs.Check.{walk, checkOf}
 use Rattle.checker.specs.Findings.{withDeclaration, declarationFinding, withImmediate, immediateFinding, withInstruction, instructionFinding, recordFinding}
+use Rattle.results.specs.Arithmetic.{unary, binary, ternary, resultWord, wide, halves, countOr, wideOf}
 use Rattle.effects.specs.Destinations.{components, ifMasked, masked, firstWord, writtenAt}
-use Rattle.effects.specs.Arithmetic.{unary, binary, ternary, resultWord, resultWords, wide, halves, countOr, wideOf}
+use Rattle.effects.specs.Sources.{resultWords}
 use Rattle.effects.specs.Effect.{familyOf}
 use Rattle.machine.specs.Operands.{fourAt, registerWords, registerOf, taken, sourceOf, firstSource, readAt, nthSource, sourcesOf}
 use Rattle.machine.specs.Step.{recordEffect}

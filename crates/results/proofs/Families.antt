@@ -1,7 +1,7 @@
 -- Families of instructions: an arm of a match on the kind is the family's table at that kind, and the default arm is met by
 -- none of them.
 -- Assumes nothing.
-use Rattle.effects.specs.Arithmetic.{countOr, halves, pair, wide, wideOf, wideUnary, wideUnaryOf, resultWord}
+use Rattle.results.specs.Arithmetic.{countOr, halves, pair, wide, wideOf, wideUnary, wideUnaryOf, resultWord}
 use Rattle.format.specs.Kinds.{within}
 use Prim.Native.Nat.{_+_, _<_, _≤_, suc, zero, ℕ}
 use mathlib.Core.Path.{_≡_, refl}
@@ -60,8 +60,9 @@ module _ (P : Type 0) (lo : ℕ) where
       on true e false e′ = rw (e, e′)
       on false e u e′ = rw e
 
-pub avoids-all : (lo n k : ℕ) → Avoids lo n k → lo ≤ k → k < lo + n → ⊥
-avoids-all lo n k = avoids (Unit {0}) lo n k
+-- a kind that is none of a family's, which begins with kind lo and has n more
+pub none-of : (lo n k x : ℕ) → Avoids lo (suc n) k → 0 ≡ cond (within lo (lo + n) k) x 0
+none-of lo n k x h = rw (outside (Unit {0}) lo n k h)
 
 -- a kind that none of the four groups of results on words has
 pub no-word : (k a b c d : ℕ) → AvoidsAlso (AvoidsAlso (AvoidsAlso (Avoids 0x10 11 k) 0x20 24 k) 0x60 4 k) 0x70 1 k → 0 ≡ resultWord k a b c d

@@ -1,8 +1,8 @@
 -- A shift takes its count, any other kind the value.
-use Rattle.effects.proofs.Families.{count-above, count-below, count-in}
+use Rattle.results.proofs.Families.{count-above, count-below, count-in}
 use borrow.Author.Needs.{needs}
-use Rattle.effects.proofs.wide.count_or.Statement.{statement}
-use Rattle.effects.proofs.wide.count_or.Tie as tie
+use Rattle.results.proofs.wide.count_or.Statement.{statement}
+use Rattle.results.proofs.wide.count_or.Tie as tie
 
 pub count-or-spec : {M : Type 1} → statement M
 count-or-spec =

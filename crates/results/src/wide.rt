@@ -18,8 +18,7 @@ use words::sums::mul64;
 use words::sums::neg64;
 use words::sums::ssg64;
 ghost use mathlib.Core.Path.{_≡_};
-ghost use Prim.Native.Nat.{_<_, _≤_};
-ghost use Rattle.effects.specs.Arithmetic.{wideUnary, wide, pair, halves, countOr, wideUnaryOf, wideOf};
+ghost use Rattle.results.specs.Arithmetic.{wideUnary, wide, pair, halves, countOr, wideUnaryOf, wideOf};
 
 fn pair_of(low: u32, high: u32) -> u64
     ensures { λ r. ⌜ r ≡ pair low high ⌝ }
@@ -39,7 +38,6 @@ fn halves_of(xy: u64, zw: u64) -> [u32; 4]
 }
 
 fn wide_unary_value(kind: u8, a: u64) -> u64
-    requires { ⌜ (0x1B ≤ kind) × (kind < 0x1E) ⌝ }
     ensures { λ r. ⌜ r ≡ wideUnary kind a ⌝ }
 {
     match kind {
@@ -51,7 +49,6 @@ fn wide_unary_value(kind: u8, a: u64) -> u64
 }
 
 pub fn wide_unary_words(kind: u8, a: [u32; 4]) -> [u32; 4]
-    requires { ⌜ (0x1B ≤ kind) × (kind < 0x1E) ⌝ }
     ensures { λ r. ⌜ r ≡ wideUnaryOf kind a ⌝ }
 {
     let xy = wide_unary_value(kind, pair_of(a[0], a[1]));
@@ -60,7 +57,6 @@ pub fn wide_unary_words(kind: u8, a: [u32; 4]) -> [u32; 4]
 }
 
 fn wide_value(kind: u8, a: u64, b: u64) -> u64
-    requires { ⌜ (0x40 ≤ kind) × (kind < 0x53) ⌝ }
     ensures { λ r. ⌜ r ≡ wide kind a b ⌝ }
 {
     match kind {
@@ -98,7 +94,6 @@ fn count_or(kind: u8, count: u32, value: u64) -> u64
 }
 
 pub fn wide_words(kind: u8, a: [u32; 4], b: [u32; 4]) -> [u32; 4]
-    requires { ⌜ (0x40 ≤ kind) × (kind < 0x53) ⌝ }
     ensures { λ r. ⌜ r ≡ wideOf kind a b ⌝ }
 {
     let xy = wide_value(

@@ -2,10 +2,10 @@
 use Rattle.effects.proofs.Writes.{word-lengths, word-more, words-written, writtenTo}
 use mathlib.Core.Path.{_≡_}
 use Prim.Native.Nat.{_-_, _≤_}
-use Rattle.effects.specs.Arithmetic.{resultWords}
+use Rattle.effects.specs.Sources.{resultWords}
 use borrow.Author.Needs.{needs}
-use Rattle.effects.proofs.arithmetic.write_words.Statement.{statement}
-use Rattle.effects.proofs.arithmetic.write_words.Tie as tie
+use Rattle.effects.proofs.result_words.write_words.Statement.{statement}
+use Rattle.effects.proofs.result_words.write_words.Tie as tie
 
 abbrev Inv-loop : tie.InvT-loop
 Inv-loop registers₀ first mask kind sources i₀ registers i = (i ≤ 4) × (registers ≡ writtenTo first mask (resultWords kind sources) registers₀ i)

@@ -1,7 +1,4 @@
-// Results on words, component by component. Each family is a match over its kinds, in document 01's order.
-use crate::destinations::is_masked;
-use crate::lent::set_word;
-use crate::sources::source_word;
+// Results by kind. Each family is a match over its kinds, in document 01's order.
 use words::bits::and32;
 use words::bits::brev32;
 use words::bits::imsb32;
@@ -37,12 +34,12 @@ use words::sums::ssg32;
 use words::sums::umad32;
 use words::sums::umulhi32;
 ghost use mathlib.Core.Path.{_≡_};
-ghost use Prim.Native.Nat.{_<_, _≤_};
-ghost use Rattle.effects.specs.Destinations.{ifMasked, masked, placed};
-ghost use Rattle.effects.specs.Arithmetic.{atomic, resultWord, resultWords};
+ghost use Rattle.results.specs.Arithmetic.{atomic, resultWord};
+
+pub mod wide;
 
 // A result on words, from one component of each source: the table of kinds, in its order.
-fn word(kind: u8, a: u32, b: u32, c: u32, d: u32) -> u32
+pub fn word(kind: u8, a: u32, b: u32, c: u32, d: u32) -> u32
     ensures { λ r. ⌜ r ≡ resultWord kind a b c d ⌝ }
 {
     match kind {
@@ -90,37 +87,8 @@ fn word(kind: u8, a: u32, b: u32, c: u32, d: u32) -> u32
     }
 }
 
-// Writes component i of a result on words; one that the mask does not have is left.
-fn put_word(registers: &mut [u32], first: u32, mask: u8, kind: u8, sources: &[[u32; 4]; 4], i: u8)
-    requires { ⌜ i < 4 ⌝ }
-    ensures { λ _. ⌜ now (registers .exit) ≡ ifMasked mask i (placed first (resultWords kind (now (sources .entry)))) (now (registers .entry)) ⌝ }
-{
-    if is_masked(mask, i) {
-        let k = i as usize;
-        let w = word(
-            kind,
-            source_word(sources, 0, k),
-            source_word(sources, 1, k),
-            source_word(sources, 2, k),
-            source_word(sources, 3, k),
-        );
-        set_word(registers, first as usize + k, w);
-    }
-}
-
-pub fn write_words(registers: &mut [u32], first: u32, mask: u8, kind: u8, sources: &[[u32; 4]; 4])
-    ensures { λ _. ⌜ now (registers .exit) ≡ masked mask (placed first (resultWords kind (now (sources .entry)))) (now (registers .entry)) ⌝ }
-{
-    let mut i: u8 = 0;
-    while i < 4 {
-        put_word(registers, first, mask, kind, sources, i);
-        i += 1;
-    }
-}
-
 // What an atomic stores, by the old word and src1.x.
 pub fn atomic_word(kind: u8, old: u32, b: u32) -> u32
-    requires { ⌜ (0x56 ≤ kind) × (kind < 0x60) ⌝ }
     ensures { λ r. ⌜ r ≡ atomic kind old b ⌝ }
 {
     match kind {

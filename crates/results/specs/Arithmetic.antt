@@ -1,4 +1,5 @@
 -- Results on words and on pairs of words: each family of instructions as document 01's table of kinds has it, in its order.
+-- A kind that is none of a family's has the result 0, which no program asks for.
 -- Assumes nothing.
 use Prim.Native.Nat.{ℕ, _+_, _-_, _*_, _/_, _%_, _^_}
 use mathlib.Core.Bool.{cond, not}
@@ -8,7 +9,6 @@ use lib.Bits.{bitAnd, bitOr, bitXor}
 use lib.ListN.{getD}
 use Rattle.words.specs.Word.{add, mul, neg, umad, umulhi, imulhi, iabs, ssg, udiv, urem, sdiv, srem, flag, slt, smin, smax, umin, umax, ucmp, shl, ushr, ishr, compl, popc, lsb, umsb, imsb, brev, ubfe, ibfe, bfi}
 use Rattle.format.specs.Kinds.{within}
-use Rattle.effects.specs.Destinations.{components}
 
 -- ---- on words, component by component
 
@@ -91,7 +91,7 @@ unfoldable pub ternary : ℕ → ℕ → ℕ → ℕ → ℕ
 ternary k a b c = getD (ternaries a b c) (k - 0x60) 0
 
 unfoldable pub atomic : ℕ → ℕ → ℕ → ℕ
-atomic k old b = getD (atomics old b) (k - 0x56) 0
+atomic k old b = cond (within 0x56 0x5F k) (getD (atomics old b) (k - 0x56) 0) 0
 
 -- All kinds whose result is made word by word, from one component of each source. BFI, kind 70: base, insert, offset, bits.
 unfoldable pub resultWord : ℕ → ℕ → ℕ → ℕ → ℕ → ℕ
@@ -100,13 +100,6 @@ resultWord k a b c d =
     (cond (within 0x20 0x37 k) (binary k a b)
     (cond (within 0x60 0x63 k) (ternary k a b c)
     (cond (eqb k 0x70) (bfi 32 a b c d) 0)))
-
--- Component i of source j.
-abbrev pub sourceWord : List (List ℕ) → ℕ → ℕ → ℕ
-sourceWord sources j i = getD (getD sources j []) i 0
-
-unfoldable pub resultWords : ℕ → List (List ℕ) → List ℕ
-resultWords k sources = components (λ i. resultWord k (sourceWord sources 0 i) (sourceWord sources 1 i) (sourceWord sources 2 i) (sourceWord sources 3 i))
 
 -- ---- on pairs of words
 
@@ -143,10 +136,10 @@ wides a b =
     ∷ []
 
 unfoldable pub wideUnary : ℕ → ℕ → ℕ
-wideUnary k a = getD (wideUnaries a) (k - 0x1B) 0
+wideUnary k a = cond (within 0x1B 0x1D k) (getD (wideUnaries a) (k - 0x1B) 0) 0
 
 unfoldable pub wide : ℕ → ℕ → ℕ → ℕ
-wide k a b = getD (wides a b) (k - 0x40) 0
+wide k a b = cond (within 0x40 0x52 k) (getD (wides a b) (k - 0x40) 0) 0
 
 -- "64-bit values: x low, y high; z low, w high." (01, Instruction corners)
 abbrev pub pair : ℕ → ℕ → ℕ

@@ -1,9 +1,9 @@
 -- The words of two 64-bit values.
-use Rattle.effects.specs.Arithmetic.{halves}
+use Rattle.results.specs.Arithmetic.{halves}
 use mathlib.Core.Path.{refl}
 use borrow.Author.Needs.{needs}
-use Rattle.effects.proofs.wide.halves_of.Statement.{statement}
-use Rattle.effects.proofs.wide.halves_of.Tie as tie
+use Rattle.results.proofs.wide.halves_of.Statement.{statement}
+use Rattle.results.proofs.wide.halves_of.Tie as tie
 
 pub halves-of-spec : {M : Type 1} → statement M
 unfolding halves

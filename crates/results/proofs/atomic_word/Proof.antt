@@ -1,10 +1,9 @@
 -- Kinds 56 to 5F: each arm is the table at its kind.
-use Rattle.effects.proofs.Families.{arm₂, avoids-all}
-use Rattle.effects.specs.Arithmetic.{atomic}
-use native.Mathlib.Omega.{arith}
+use Rattle.results.proofs.Families.{arm₂, none-of}
+use Rattle.results.specs.Arithmetic.{atomic}
 use borrow.Author.Needs.{needs}
-use Rattle.effects.proofs.arithmetic.atomic_word.Statement.{statement}
-use Rattle.effects.proofs.arithmetic.atomic_word.Tie as tie
+use Rattle.results.proofs.atomic_word.Statement.{statement}
+use Rattle.results.proofs.atomic_word.Tie as tie
 
 pub atomic-word-spec : {M : Type 1} → statement M
 unfolding atomic
@@ -23,4 +22,4 @@ atomic-word-spec =
     (λ c. search (needs, arm₂ atomic 0x5d))
     (λ c. search (needs, arm₂ atomic 0x5e))
     (λ c. search (needs, arm₂ atomic 0x5f))
-    (λ c. absurd (avoids-all 0x56 10 _ (c .match .rest) (omega arith) (omega arith))))
+    (λ c. none-of 0x56 9 _ _ (c .match .rest)))

@@ -1,10 +1,9 @@
 -- Kinds 40 to 52: each arm is the table at its kind.
-use Rattle.effects.proofs.Families.{arm₂, avoids-all, flagged, flagged-not}
-use Rattle.effects.specs.Arithmetic.{wide}
-use native.Mathlib.Omega.{arith}
+use Rattle.results.proofs.Families.{arm₂, flagged, flagged-not, none-of}
+use Rattle.results.specs.Arithmetic.{wide}
 use borrow.Author.Needs.{needs}
-use Rattle.effects.proofs.wide.wide_value.Statement.{statement}
-use Rattle.effects.proofs.wide.wide_value.Tie as tie
+use Rattle.results.proofs.wide.wide_value.Statement.{statement}
+use Rattle.results.proofs.wide.wide_value.Tie as tie
 
 pub wide-value-spec : {M : Type 1} → statement M
 unfolding wide
@@ -34,4 +33,4 @@ wide-value-spec =
     (λ c. search (needs, arm₂ wide 0x50))
     (λ c. search (needs, arm₂ wide 0x51, flagged))
     (λ c. search (needs, arm₂ wide 0x52, flagged-not))
-    (λ c. absurd (avoids-all 0x40 19 _ (c .match .rest) (omega arith) (omega arith))))
+    (λ c. none-of 0x40 18 _ _ (c .match .rest)))

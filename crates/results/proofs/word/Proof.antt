@@ -1,9 +1,9 @@
 -- Each arm is the table of kinds at its kind.
-use Rattle.effects.proofs.Families.{arm-word, flagged, flagged-not, no-word}
-use Rattle.effects.specs.Arithmetic.{binary, ternary, unary, resultWord}
+use Rattle.results.proofs.Families.{arm-word, flagged, flagged-not, no-word}
+use Rattle.results.specs.Arithmetic.{binary, ternary, unary, resultWord}
 use borrow.Author.Needs.{needs}
-use Rattle.effects.proofs.arithmetic.word.Statement.{statement}
-use Rattle.effects.proofs.arithmetic.word.Tie as tie
+use Rattle.results.proofs.word.Statement.{statement}
+use Rattle.results.proofs.word.Tie as tie
 
 pub word-spec : {M : Type 1} → statement M
 unfolding resultWord unary binary ternary

@@ -1,9 +1,9 @@
 -- Kinds 1B to 1D: each arm is the table at its kind.
-use Rattle.effects.proofs.Families.{arm₁}
-use Rattle.effects.specs.Arithmetic.{wideUnary}
+use Rattle.results.proofs.Families.{arm₁, none-of}
+use Rattle.results.specs.Arithmetic.{wideUnary}
 use borrow.Author.Needs.{needs}
-use Rattle.effects.proofs.wide.wide_unary_value.Statement.{statement}
-use Rattle.effects.proofs.wide.wide_unary_value.Tie as tie
+use Rattle.results.proofs.wide.wide_unary_value.Statement.{statement}
+use Rattle.results.proofs.wide.wide_unary_value.Tie as tie
 
 pub wide-unary-value-spec : {M : Type 1} → statement M
 unfolding wideUnary
@@ -14,4 +14,4 @@ wide-unary-value-spec =
     (λ c. search (needs, arm₁ wideUnary 0x1b))
     (λ c. search (needs, arm₁ wideUnary 0x1c))
     (λ c. search (needs, arm₁ wideUnary 0x1d))
-    (search needs))
+    (λ c. none-of 0x1B 2 _ _ (c .match .rest)))
