@@ -9,7 +9,7 @@ use native.Mathlib.Omega.{arith}
 use lib.Dec.{eqb, leb}
 use borrow.Author.Tests.{eqb-true, eq-eqb, ne-eqb, leb-true, ltb-true}
 use Rattle.format.specs.Files.{CONST, IN, TEMP, IMM, MEM, registersOf}
-use Rattle.format.specs.Kinds.{destinations, sources, formOf, within}
+use Rattle.format.specs.Kinds.{destinations, sources, formOf, firstSource, sourcePlace, within}
 use Rattle.format.specs.Fields.{destinationAt, sourceAt}
 use Rattle.format.specs.declared.fields.Destination.{Destination}
 use Rattle.format.specs.declared.fields.Source.{Source}
@@ -66,10 +66,10 @@ module _ (kind : ℕ) (file : List ℕ) (at : ℕ) where
   destination = destinationAt file (at + 1)
 
   abbrev pub source : ℕ → Source
-  source i = sourceAt file (at + 1 + 4 * destinations (formOf kind) + 5 * i)
+  source i = sourceAt file (at + sourcePlace kind i)
 
   module _ (askedD : Destination → Bool) (askedS : Source → Bool) (all : allOperands kind askedD askedS file at ≡ true) where
-    parts : ((eqb (destinations (formOf kind)) 0 || askedD destination) ≡ true) × (allSources askedS file (at + 1 + 4 * destinations (formOf kind)) (sources (formOf kind)) ≡ true)
+    parts : ((eqb (destinations (formOf kind)) 0 || askedD destination) ≡ true) × (allSources askedS file (at + firstSource kind) (sources (formOf kind)) ≡ true)
     unfolding allOperands
     parts = and-both _ _ all
 
@@ -77,7 +77,9 @@ module _ (kind : ℕ) (file : List ℕ) (at : ℕ) where
     destination-asked some = rw (ne-eqb (destinations (formOf kind)) 0 some) at (parts .0)
 
     source-asked : (i : ℕ) → i < sources (formOf kind) → askedS (source i) ≡ true
-    source-asked i h = all-at askedS file (at + 1 + 4 * destinations (formOf kind)) (sources (formOf kind)) i (parts .1) h
+    source-asked i h =
+        let e : at + sourcePlace kind i ≡ at + firstSource kind + 5 * i = omega arith in
+        rw e (all-at askedS file (at + firstSource kind) (sources (formOf kind)) i (parts .1) h)
 
   -- ---- The field rules
 

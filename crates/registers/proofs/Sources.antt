@@ -8,7 +8,7 @@ use native.Mathlib.Omega.{arith}
 use lib.Dec.{eqb, ltb}
 use borrow.Author.Tests.{eq-eqb, ne-eqb, not-true, not-false}
 use Rattle.format.specs.Files.{ADDR, MEM, registersOf}
-use Rattle.format.specs.Kinds.{destinations, sources, formOf}
+use Rattle.format.specs.Kinds.{destinations, sources, formOf, firstSource}
 use Rattle.format.specs.Fields.{destinationAt, sourceAt}
 use Rattle.format.specs.declared.fields.Destination.{Destination}
 use Rattle.format.specs.declared.fields.Source.{Source}
@@ -40,15 +40,15 @@ module _ (asked : Source → Bool) (file : List ℕ) (p left : ℕ) where
 
 -- ---- The destination, and the sources after it
 
-pub sources-begin : (asked : Source → Bool) (file : List ℕ) (at kind d n : ℕ) → d ≡ destinations (formOf kind) → n ≡ sources (formOf kind)
-    → allSources asked file (at + 1 + 4 * destinations (formOf kind)) (sources (formOf kind)) ≡ allSources asked file (at + 1 + 4 * d) n
-sources-begin asked file at kind d n ds ns = rw (ds, ns)
+pub sources-begin : (asked : Source → Bool) (file : List ℕ) (at kind first n : ℕ) → first ≡ firstSource kind → n ≡ sources (formOf kind)
+    → allSources asked file (at + firstSource kind) (sources (formOf kind)) ≡ allSources asked file (at + first) n
+sources-begin asked file at kind first n begins ns = rw (begins, ns)
 
 pub all-operands : (kind d : ℕ) (askedD : Destination → Bool) (askedS : Source → Bool) (file : List ℕ) (at : ℕ) (r : Destination) (x y : Bool)
     → d ≡ destinations (formOf kind)
     → r ≡ destinationAt file (at + 1)
     → x ≡ askedD r
-    → y ≡ allSources askedS file (at + 1 + 4 * destinations (formOf kind)) (sources (formOf kind))
+    → y ≡ allSources askedS file (at + firstSource kind) (sources (formOf kind))
     → ((eqb d 0 || x) && y) ≡ allOperands kind askedD askedS file at
 unfolding allOperands
 all-operands kind d askedD askedS file at r x y ds here answer rest = rw (rest, answer, here, ds)

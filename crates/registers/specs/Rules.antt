@@ -1,11 +1,11 @@
 -- The field rules of document 01, sentence by sentence. A record that breaks one is refused with 7.
 -- Assumes nothing.
-use Prim.Native.Nat.{ℕ, zero, suc, _+_, _*_, _/_, _%_}
+use Prim.Native.Nat.{ℕ, zero, suc, _+_, _/_, _%_}
 use mathlib.Core.List.{List}
 use mathlib.Core.Bool.{Bool, true, cond, not, _&&_, _||_}
 use lib.Dec.{eqb, leb, ltb}
 use Rattle.format.specs.Files.{CONST, IN, OUT, TEMP, ADDR, IMM, MEM, registersOf}
-use Rattle.format.specs.Kinds.{destinations, sources, formOf, within}
+use Rattle.format.specs.Kinds.{destinations, sources, formOf, firstSource, within}
 use Rattle.format.specs.Fields.{destinationAt, sourceAt}
 use Rattle.format.specs.declared.fields.Destination.{Destination}
 use Rattle.format.specs.declared.fields.Source.{Source}
@@ -88,7 +88,7 @@ allSources asked file p (suc n) = asked (sourceAt file p) && allSources asked fi
 unfoldable pub allOperands : ℕ → (Destination → Bool) → (Source → Bool) → List ℕ → ℕ → Bool
 allOperands kind askedD askedS file at =
     (eqb (destinations (formOf kind)) 0 || askedD (destinationAt file (at + 1)))
-    && allSources askedS file (at + 1 + 4 * destinations (formOf kind)) (sources (formOf kind))
+    && allSources askedS file (at + firstSource kind) (sources (formOf kind))
 
 abbrev pub operandRules : ℕ → List ℕ → ℕ → Bool
 operandRules kind file at = allOperands kind (destinationRule kind) (sourceRule kind) file at
