@@ -3,13 +3,13 @@
 use mathlib.Core.Path.{_≡_, sym, ap, _∙_}
 use mathlib.Core.Bool.{Bool, true, false, not, _&&_, _||_}
 use mathlib.Core.List.{List}
-use Prim.Native.Nat.{ℕ, suc, _+_, _-_, _*_, _/_}
+use Prim.Native.Nat.{ℕ, suc, _+_, _-_, _*_}
 use native.Mathlib.Omega.{arith}
 use lib.Dec.{eqb, ltb}
 use borrow.Author.Tests.{eq-eqb, ne-eqb, not-true, not-false}
-use Rattle.format.specs.Files.{ADDR, MEM, registersOf}
+use Rattle.format.specs.Files.{ADDR, IMM, MEM, registersOf}
 use Rattle.format.specs.Kinds.{destinations, sources, formOf, firstSource}
-use Rattle.format.specs.Fields.{destinationAt, sourceAt}
+use Rattle.format.specs.Fields.{destinationAt, sourceAt, indirection}
 use Rattle.format.specs.declared.fields.Destination.{Destination}
 use Rattle.format.specs.declared.fields.Source.{Source}
 use Rattle.registers.specs.Sets.{Registers, anyOf}
@@ -56,18 +56,18 @@ all-operands kind d askedD askedS file at r x y ds here answer rest = rw (rest, 
 -- ---- What a source names
 
 module _ (declared : Registers) (words : ℕ) (s : Source) where
-  pub source-indirect : (a b : Bool) → (s .modifier / 2 ≡ 0 → ⊥) → a ≡ declared ADDR 0 → b ≡ anyOf (declared (s .file)) 0 (registersOf (s .file))
+  pub source-indirect : (k : ℕ) (a b : Bool) → k ≡ indirection s → (k ≡ 0 → ⊥) → a ≡ declared ADDR 0 → b ≡ anyOf (declared (s .file)) 0 (registersOf (s .file))
       → (a && b) ≡ sourceFound declared words s
   unfolding sourceFound
-  source-indirect a b h e f = rw (ne-eqb _ _ h, e, f)
+  source-indirect k a b i h e f = rw (← i, ne-eqb k 0 h, e, f)
 
-  pub source-immediate : s .modifier / 2 ≡ 0 → s .file ≡ 6 → ltb (4 * s .index) words ≡ sourceFound declared words s
+  pub source-immediate : (k : ℕ) → k ≡ indirection s → k ≡ 0 → s .file ≡ IMM → ltb (4 * s .index) words ≡ sourceFound declared words s
   unfolding sourceFound
-  source-immediate h e = rw (eq-eqb _ _ h, eq-eqb _ _ e)
+  source-immediate k i h e = rw (← i, eq-eqb k 0 h, eq-eqb _ _ e)
 
-  pub source-register : (x : Bool) → s .modifier / 2 ≡ 0 → (s .file ≡ 6 → ⊥) → x ≡ declared (s .file) (s .index) → x ≡ sourceFound declared words s
+  pub source-register : (k : ℕ) (x : Bool) → k ≡ indirection s → k ≡ 0 → (s .file ≡ IMM → ⊥) → x ≡ declared (s .file) (s .index) → x ≡ sourceFound declared words s
   unfolding sourceFound
-  source-register x h e f = rw (eq-eqb _ _ h, ne-eqb _ _ e) f
+  source-register k x i h e f = rw (← i, eq-eqb k 0 h, ne-eqb _ _ e) f
 
 pub written-by : (k kind f : ℕ) (r : Bool) → kind ≡ k → r ≡ destinationFile k f → r ≡ destinationFile kind f
 written-by k kind f r e q = rw e q

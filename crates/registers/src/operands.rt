@@ -3,6 +3,8 @@ use crate::sets;
 use crate::sets::Declared;
 use format::fields::Destination;
 use format::fields::Source;
+use format::fields::indirection;
+use format::fields::negates;
 use format::files::ADDR;
 use format::files::CONST;
 use format::files::IMM;
@@ -69,11 +71,10 @@ fn source_allowed(kind: u8, s: Source) -> bool
 {
     let file = s.file;
     let modifier = s.modifier;
-    let negated = modifier % 2 == 1;
-    let indirect = modifier / 2 != 0;
+    let indirect = indirection(s) != 0;
     ((file == CONST) | (file == IN) | (file == TEMP) | (file == IMM))
         & (modifier <= 9)
-        & (!negated | may_negate(kind))
+        & (!negates(s) | may_negate(kind))
         & (!indirect | ((file == CONST) | (file == TEMP)))
         & ((kind != 0x92) | ((file == IMM) & (modifier == 0)))
 }
@@ -110,7 +111,7 @@ fn source_found(d: Declared, words: usize, s: Source) -> bool
 {
     let file = s.file;
     let index = s.index as usize;
-    if s.modifier / 2 != 0 {
+    if indirection(s) != 0 {
         return sets::is_declared(d, ADDR, 0) & sets::is_file_declared(d, file);
     }
     if file == IMM {
