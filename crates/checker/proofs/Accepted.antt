@@ -3,10 +3,11 @@
 -- Assumes nothing.
 use mathlib.Core.Path.{_≡_}
 use mathlib.Core.List.{List}
-use Prim.Native.Nat.{ℕ, _*_, _/_, _<_, _≤_}
+use Prim.Native.Nat.{ℕ, _*_, _<_, _≤_}
 use native.Mathlib.Omega.{arith}
 use lib.ListN.{length, getD}
 use Rattle.format.specs.Files.{IMM, registersOf}
+use Rattle.format.specs.Fields.{indirection}
 use Rattle.format.specs.Kinds.{destinations, sources, formOf}
 use Rattle.format.specs.Records.{placeFrom}
 use Rattle.registers.proofs.Named.{destination, source, modifier-most, direct-given}
@@ -37,7 +38,7 @@ module _ (file : List ℕ) (f : Seen) (ok : checkOf file ≡ accepted f) (n : �
     pub modifier-inside : source kind file place i .modifier ≤ 9
     modifier-inside = modifier-most kind file place (operands .allowed) i b
 
-    module _ (direct : source kind file place i .modifier / 2 ≡ 0) where
+    module _ (direct : indirection (source kind file place i) ≡ 0) where
       pub source-inside : (source kind file place i .file ≡ IMM → ⊥) → source kind file place i .index < registersOf (source kind file place i .file)
       source-inside = named.direct-inside kind file place (f .declared) (length (f .immediates)) (operands .found) (holds .inside) i b direct
 

@@ -11,9 +11,9 @@ use borrow.Author.Tests.{ltb-true, ltb-false, eqb-true}
 use lib.Dec.{eqb, ltb}
 use lib.ListN.{length, take, replicate, length-replicate, getD-replicate, List·getD-append, List·getD-eq-default}
 use lib.Seq.{getD-append-add}
+use Rattle.words.specs.Word as word
 use Rattle.registers.specs.declared.sets.Declared.{Declared}
 use Rattle.registers.specs.Sets.{isIn}
-use Rattle.registers.specs.Sets as sets
 use Rattle.machine.specs.Bank.{envIn}
 use Rattle.machine.specs.Operands.{bitIn, declaredIn, envWith, wordIn}
 use Rattle.execution.specs.Steps.{askedIndirectly, bankEnv}
@@ -47,7 +47,7 @@ module _ (a b : List ℕ) (la : length a ≡ 32) (lb : length b ≡ 8) (i : ℕ)
 
 module _ (d : Declared) (lc : length (d .consts) ≡ 32) (lt : length (d .temps) ≡ 8) where
   pub asked-is : declaredIn ((d .consts) ++ (d .temps)) ≡ askedIndirectly (isIn d)
-  unfolding declaredIn isIn sets.bitIn sets.bit
+  unfolding declaredIn isIn word.bitIn
   asked-is = fun-ext λ f. fun-ext λ i. on f i (eqb f 1) refl (eqb f 4) refl
     where
       on : (f i : ℕ) (t : Bool) → eqb f 1 ≡ t → (u : Bool) → eqb f 4 ≡ u → declaredIn ((d .consts) ++ (d .temps)) f i ≡ askedIndirectly (isIn d) f i

@@ -1,14 +1,11 @@
 -- Numbers and operands: what is read byte by byte is the number or the operand at the place.
 -- Assumes nothing.
-use mathlib.Core.Path.{_≡_, refl, sym, ap, _∙_}
+use mathlib.Core.Path.{_≡_, sym, _∙_}
 use mathlib.Core.List.{List}
 use Prim.Native.Nat.{ℕ, _+_, _-_, _*_, _%_, _≤_}
 use native.Mathlib.Omega.{arith}
 use lib.ListN.{length, getD, List·getD-eq-default}
 use Rattle.format.specs.Fields.{word16, word32, destinationAt, sourceAt, declarationAt, caseWord}
-use Rattle.format.specs.declared.fields.Destination.{Destination}
-use Rattle.format.specs.declared.fields.Source.{Source}
-use Rattle.format.specs.declared.fields.Declaration.{Declaration}
 
 -- Past the end there is 0.
 pub past-end : (l : List ℕ) (i : ℕ) → length l ≤ i → 0 ≡ getD l i 0

@@ -1,7 +1,9 @@
 -- Numbers and operands at a place p of the file. "Numbers are little-endian."
 -- Assumes nothing.
-use Prim.Native.Nat.{ℕ, _+_, _*_, _%_}
+use Prim.Native.Nat.{ℕ, _+_, _*_, _/_, _%_}
+use mathlib.Core.Bool.{Bool, not}
 use mathlib.Core.List.{List}
+use lib.Dec.{eqb}
 use lib.ListN.{getD}
 use Rattle.format.specs.declared.fields.Destination.{Destination}
 use Rattle.format.specs.declared.fields.Source.{Source}
@@ -18,7 +20,7 @@ unfoldable pub destinationAt : List ℕ → ℕ → Destination
 destinationAt file p =
     record { file = getD file p 0; index = word16 file (p + 1); mask = getD file (p + 3) 0 }
 
--- "Source: file 1, index 2, swizzle 1 (two bits per component, x lowest), modifier 1: negate + 2·indirect"
+-- "Source: file 1, index 2, swizzle 1 (two bits per component, x lowest), modifier 1"
 unfoldable pub sourceAt : List ℕ → ℕ → Source
 sourceAt file p =
     record {
@@ -27,6 +29,16 @@ sourceAt file p =
       swizzle = getD file (p + 3) 0;
       modifier = getD file (p + 4) 0;
     }
+
+-- "modifier 1: negate + 2·indirect, indirect 0 for none or 1 to 4 for ADDR[0].x to .w"
+abbrev pub negates : Source → Bool
+negates s = eqb (s .modifier % 2) 1
+
+abbrev pub indirection : Source → ℕ
+indirection s = s .modifier / 2
+
+abbrev pub isIndirect : Source → Bool
+isIndirect s = not (eqb (indirection s) 0)
 
 -- "declaration: file 1, first 2, last 2"
 unfoldable pub declarationAt : List ℕ → ℕ → Declaration

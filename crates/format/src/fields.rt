@@ -2,7 +2,7 @@
 ghost use mathlib.Core.Path.{_≡_};
 ghost use Prim.Native.Nat.{_+_, _*_, _≤_};
 ghost use lib.ListN.{getD, length};
-ghost use Rattle.format.specs.Fields.{word16, word32, destinationAt, sourceAt, declarationAt, caseWord};
+ghost use Rattle.format.specs.Fields.{word16, word32, destinationAt, sourceAt, negates, indirection, declarationAt, caseWord};
 
 // Where an instruction writes: a register, and the components that its mask has.
 pub struct Destination {
@@ -125,6 +125,20 @@ fn source_in(bytes: &[u8], at: usize) -> Source
         swizzle: bytes[at + 3],
         modifier: bytes[at + 4],
     }
+}
+
+// Whether a source is negated.
+pub fn negates(s: Source) -> bool
+    ensures { λ r. ⌜ r ≡ negates s ⌝ }
+{
+    s.modifier % 2 == 1
+}
+
+// 1 to 4 where ADDR[0].x to .w is added to a source's index, 0 for none.
+pub fn indirection(s: Source) -> u8
+    ensures { λ r. ⌜ r ≡ indirection s ⌝ }
+{
+    s.modifier / 2
 }
 
 // The declaration whose file byte stands at a place.

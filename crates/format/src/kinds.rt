@@ -1,6 +1,6 @@
 // Kinds of records: how long the body of each is, and which operands it has.
 ghost use mathlib.Core.Path.{_≡_};
-ghost use Rattle.format.specs.Kinds.{lengthOf, formOf, destinations, sources};
+ghost use Rattle.format.specs.Kinds.{lengthOf, formOf, destinations, sources, firstSource};
 
 // What the table holds for an unknown kind.
 pub const UNKNOWN: u8 = 255;
@@ -293,4 +293,11 @@ pub fn sources_of(kind: u8) -> u8
         0x70 => 4,
         _ => 0,
     }
+}
+
+// Where the first source of a record of this kind stands, counted from the record's first byte; each has five bytes.
+pub fn first_source(kind: u8) -> u8
+    ensures { λ r. ⌜ r ≡ firstSource kind ⌝ }
+{
+    1 + 4 * destinations_of(kind)
 }

@@ -1,4 +1,4 @@
--- Bits of a word and of words: after one is set, in a search over them, and that a word without bits is 0.
+-- Bits of a word and of words: a range of them that is set, a search over them, and that a word without bits is 0.
 -- Assumes nothing.
 use mathlib.Core.Path.{_≡_, refl, sym, ap, _∙_}
 use mathlib.Core.Bool.{Bool, true, false, not, _||_, _&&_}
@@ -7,79 +7,15 @@ use mathlib.Core.List.{List}
 use Prim.Native.Nat.{ℕ, zero, suc, _+_, _-_, _*_, _/_, _%_, _^_, _<_, _≤_}
 use native.Mathlib.Omega.{arith}
 use native.Mathlib.Numerals.{add-one}
-use native.Mathlib.Nat.{one-mul, zero-add, add-zero, pow-suc, div-eq-of-lt, eq-or-lt-of-le, zero-div, add-suc, suc-add}
+use native.Mathlib.Nat.{zero-add, add-zero, pow-suc, eq-or-lt-of-le, zero-div, add-suc, suc-add}
 use lib.Dec.{eqb, leb, ltb}
-use lib.Bits.{bitOr, or-shr, or-mod}
-use lib.Pow.{pow-add, shl-shr, pow-lt, high}
-use lib.ListN.{length, getD, set, List·getD-eq-default}
-use lib.Seq.{getD-set-same, getD-set-other}
+use lib.Pow.{high}
+use lib.ListN.{length, getD}
 use borrow.Author.Tests.{eq-eqb, ne-eqb, eqb-true, eqb-false, le-leb, lt-leb, le-ltb, lt-ltb}
-use Rattle.registers.specs.Sets.{bit, bitIn, anyOf, withOne, withAll}
-use Rattle.registers.proofs.Choices.{le-or-lt, or-false, or-comm, and-false}
-
--- ---- One bit more
-
-or-digits : (x y : ℕ) → x < 2 → y < 2 → eqb (bitOr x y) 1 ≡ (eqb x 1 || eqb y 1)
-or-digits zero zero h l = refl
-or-digits zero (suc zero) h l = refl
-or-digits zero (suc (suc y)) h l = absurd (omega arith)
-or-digits (suc zero) zero h l = refl
-or-digits (suc zero) (suc zero) h l = refl
-or-digits (suc zero) (suc (suc y)) h l = absurd (omega arith)
-or-digits (suc (suc x)) y h l = absurd (omega arith)
-
-bit-or : (a b j : ℕ) → bit (bitOr a b) j ≡ (bit a j || bit b j)
-unfolding bit
-bit-or a b j = rw (or-shr a b j, or-mod (a / 2 ^ j) (b / 2 ^ j) 1) (or-digits (a / 2 ^ j % 2) (b / 2 ^ j % 2) (omega arith) (omega arith))
-
-bit-of : (x k : ℕ) {n : ℕ} → x / 2 ^ k % 2 ≡ n → bit x k ≡ eqb n 1
-unfolding bit
-bit-of x k e = ap (λ (n : ℕ). eqb n 1) e
-
--- 2 ^ k has the one bit k.
-pow-below : (j m : ℕ) → 2 ^ (suc m + j) / 2 ^ j % 2 ≡ 0
-pow-below j m = rw (pow-add 2 (suc m) j, shl-shr (2 ^ suc m) j, pow-suc 2 m) (omega arith)
-
-pow-same : (k : ℕ) → 2 ^ k / 2 ^ k % 2 ≡ 1
-pow-same k = ap (λ (x : ℕ). x / 2 ^ k % 2) (sym (one-mul (2 ^ k))) ∙ ap (λ (x : ℕ). x % 2) (shl-shr 1 k)
-
-pow-above : (k j : ℕ) → k < j → 2 ^ k / 2 ^ j % 2 ≡ 0
-pow-above k j h = ap (λ (x : ℕ). x % 2) (div-eq-of-lt (pow-lt h))
-
-bit-pow : (k j : ℕ) → bit (2 ^ k) j ≡ eqb j k
-bit-pow k j =
-    ⊎-elim
-    (λ l. ⊎-elim
-    (λ e. rw e (bit-of (2 ^ k) k (pow-same k) ∙ sym (eq-eqb k k refl)))
-    (λ h. let e : k ≡ suc (k - j - 1) + j = omega arith in
-    bit-of (2 ^ k) j (ap (λ (n : ℕ). 2 ^ n / 2 ^ j % 2) e ∙ pow-below j (k - j - 1)) ∙ sym (ne-eqb j k (λ q. omega arith)))
-    (eq-or-lt-of-le l))
-    (λ h. bit-of (2 ^ k) j (pow-above k j h) ∙ sym (ne-eqb j k (λ q. omega arith)))
-    (le-or-lt j k)
-
-bit-more : (w k j : ℕ) → bit (bitOr w (2 ^ k)) j ≡ (eqb j k || bit w j)
-bit-more w k j = bit-or w (2 ^ k) j ∙ ap (λ (t : Bool). bit w j || t) (bit-pow k j) ∙ or-comm (bit w j) (eqb j k)
-
-same-word : (i j : ℕ) → j / 32 ≡ i / 32 → eqb (j % 32) (i % 32) ≡ eqb j i
-same-word i j q = by (eqb (j % 32) (i % 32)) refl where
-  by : (t : Bool) → eqb (j % 32) (i % 32) ≡ t → eqb (j % 32) (i % 32) ≡ eqb j i
-  by true e = let r = eqb-true (j % 32) (i % 32) e in e ∙ sym (eq-eqb j i (omega arith))
-  by false e = let r = eqb-false (j % 32) (i % 32) e in e ∙ sym (ne-eqb j i (λ s. r (ap (λ (n : ℕ). n % 32) s)))
-
--- Words in which the word of bit i has got that bit.
-pub bits-more : (ws : List ℕ) (i : ℕ) → i / 32 < length ws
-    → bitIn (set ws (i / 32) (bitOr (getD ws (i / 32) 0) (2 ^ (i % 32)))) ≡ withOne (bitIn ws) i
-unfolding bitIn
-bits-more ws i h t j = by (eqb (j / 32) (i / 32)) refl t where
-  by : (t : Bool) → eqb (j / 32) (i / 32) ≡ t → bit (getD (set ws (i / 32) (bitOr (getD ws (i / 32) 0) (2 ^ (i % 32)))) (j / 32) 0) (j % 32) ≡ (eqb j i || bit (getD ws (j / 32) 0) (j % 32))
-  by true e =
-      let q : j / 32 ≡ i / 32 = eqb-true (j / 32) (i / 32) e in
-      rw (q, getD-set-same ws (i / 32) (bitOr (getD ws (i / 32) 0) (2 ^ (i % 32))) 0 h)
-      (bit-more (getD ws (i / 32) 0) (i % 32) (j % 32)
-      ∙ ap (λ (t : Bool). t || bit (getD ws (i / 32) 0) (j % 32)) (same-word i j q))
-  by false e =
-      let q = eqb-false (j / 32) (i / 32) e in
-      rw (getD-set-other ws (i / 32) (j / 32) (bitOr (getD ws (i / 32) 0) (2 ^ (i % 32))) 0 q, ne-eqb j i (λ r. q (ap (λ (n : ℕ). n / 32) r)))
+use Rattle.words.specs.Word.{isSet, bitIn}
+use Rattle.words.proofs.Choices.{or-comm}
+use Rattle.registers.specs.Sets.{anyOf, withOne, withAll}
+use Rattle.registers.proofs.Choices.{le-or-lt, or-false, and-false}
 
 -- ---- A range of bits more, one after the other
 
@@ -159,8 +95,7 @@ any-same p q i j (suc n) h =
 any-last : (p : ℕ → Bool) (n : ℕ) → anyOf p 0 (n + 1) ≡ (anyOf p 0 n || p n)
 any-last p n = any-append p n 1 0 ∙ rw (zero-add n) (ap (λ (t : Bool). anyOf p 0 n || t) (or-false (p n)))
 
-low-half : (w n : ℕ) → w < 2 ^ suc n → bit w n ≡ false → w < 2 ^ n
-unfolding bit
+low-half : (w n : ℕ) → w < 2 ^ suc n → isSet w n ≡ false → w < 2 ^ n
 low-half w n h e =
     let z = eqb-false (w / 2 ^ n % 2) 1 e in
     ⊎-elim (λ l. absurd (z (half l))) (λ l. l) (le-or-lt (2 ^ n) w)
@@ -170,54 +105,47 @@ low-half w n h e =
         let s : w ≡ 1 * 2 ^ n + (w - 2 ^ n) = omega arith in
         ap (λ (x : ℕ). x / 2 ^ n % 2) s ∙ ap (λ (x : ℕ). x % 2) (high 1 n (omega (arith, pow-suc 2 n)))
 
-some-bit : (n w : ℕ) → w < 2 ^ n → (w ≡ 0 → ⊥) → anyOf (bit w) 0 n ≡ true
+some-bit : (n w : ℕ) → w < 2 ^ n → (w ≡ 0 → ⊥) → anyOf (isSet w) 0 n ≡ true
 some-bit zero w h z = absurd (z (omega arith))
-some-bit (suc n) w h z = ap (anyOf (bit w) 0) (sym (add-one n)) ∙ any-last (bit w) n ∙ by (bit w n) refl (some-bit n w) where
-  by : (t : Bool) → bit w n ≡ t → (w < 2 ^ n → (w ≡ 0 → ⊥) → anyOf (bit w) 0 n ≡ true) → (anyOf (bit w) 0 n || t) ≡ true
-  by true e f = or-comm (anyOf (bit w) 0 n) true
-  by false e f = or-false (anyOf (bit w) 0 n) ∙ f (low-half w n h e) z
+some-bit (suc n) w h z = ap (anyOf (isSet w) 0) (sym (add-one n)) ∙ any-last (isSet w) n ∙ by (isSet w n) refl (some-bit n w) where
+  by : (t : Bool) → isSet w n ≡ t → (w < 2 ^ n → (w ≡ 0 → ⊥) → anyOf (isSet w) 0 n ≡ true) → (anyOf (isSet w) 0 n || t) ≡ true
+  by true e f = or-comm (anyOf (isSet w) 0 n) true
+  by false e f = or-false (anyOf (isSet w) 0 n) ∙ f (low-half w n h e) z
 
-no-bit : (n i : ℕ) → anyOf (bit 0) i n ≡ false
-unfolding bit
+no-bit : (n i : ℕ) → anyOf (isSet 0) i n ≡ false
 no-bit zero i = refl
 no-bit (suc n) i = rw (zero-div (2 ^ i)) (no-bit n (suc i))
 
-pub not-zero : (w : ℕ) → w < 2 ^ 32 → not (eqb w 0) ≡ anyOf (bit w) 0 32
+pub not-zero : (w : ℕ) → w < 2 ^ 32 → not (eqb w 0) ≡ anyOf (isSet w) 0 32
 not-zero w h = by (eqb w 0) refl where
-  by : (t : Bool) → eqb w 0 ≡ t → not t ≡ anyOf (bit w) 0 32
+  by : (t : Bool) → eqb w 0 ≡ t → not t ≡ anyOf (isSet w) 0 32
   by true e = rw (eqb-true w 0 e) (sym (no-bit 32 0))
   by false e = sym (some-bit 32 w h (eqb-false w 0 e))
 
 module _ (ws : List ℕ) (i : ℕ) where
-  word-bits : anyOf (bitIn ws) (32 * i) 32 ≡ anyOf (bit (getD ws i 0)) 0 32
+  word-bits : anyOf (bitIn ws) (32 * i) 32 ≡ anyOf (isSet (getD ws i 0)) 0 32
   unfolding bitIn
   word-bits =
-      any-same (bitIn ws) (bit (getD ws i 0)) (32 * i) 0 32
+      any-same (bitIn ws) (isSet (getD ws i 0)) (32 * i) 0 32
       (λ k l. let a : (32 * i + k) / 32 ≡ i = omega arith in
       let b : (32 * i + k) % 32 ≡ 0 + k = omega arith in
       rw (a, b))
 
   module _ (w : Bool) (whole : w ≡ anyOf (bitIn ws) (32 * i) (32 * (length ws - i))) (h : i < length ws) where
-    by-word : w ≡ (anyOf (bit (getD ws i 0)) 0 32 || anyOf (bitIn ws) (32 * (i + 1)) (32 * (length ws - (i + 1))))
+    by-word : w ≡ (anyOf (isSet (getD ws i 0)) 0 32 || anyOf (bitIn ws) (32 * (i + 1)) (32 * (length ws - (i + 1))))
     by-word =
         let e : 32 * (length ws - i) ≡ 32 + 32 * (length ws - (i + 1)) = omega arith in
         let f : 32 * i + 32 ≡ 32 * (i + 1) = omega arith in
         whole ∙ ap (anyOf (bitIn ws) (32 * i)) e ∙ any-append (bitIn ws) 32 (32 * (length ws - (i + 1))) (32 * i)
         ∙ rw (word-bits, f)
 
-    pub some-found : (x : Bool) → x ≡ anyOf (bit (getD ws i 0)) 0 32 → x ≡ true → true ≡ w
+    pub some-found : (x : Bool) → x ≡ anyOf (isSet (getD ws i 0)) 0 32 → x ≡ true → true ≡ w
     some-found x e t = sym (by-word ∙ rw (sym e ∙ t))
 
-    pub some-on : (x : Bool) → x ≡ anyOf (bit (getD ws i 0)) 0 32 → x ≡ false → w ≡ anyOf (bitIn ws) (32 * (i + 1)) (32 * (length ws - (i + 1)))
+    pub some-on : (x : Bool) → x ≡ anyOf (isSet (getD ws i 0)) 0 32 → x ≡ false → w ≡ anyOf (bitIn ws) (32 * (i + 1)) (32 * (length ws - (i + 1)))
     some-on x e t = by-word ∙ rw (sym e ∙ t)
 
   pub some-end : (w : Bool) → length ws ≤ i → w ≡ anyOf (bitIn ws) (32 * i) (32 * (length ws - i)) → false ≡ w
   some-end w h whole =
       let e : 32 * (length ws - i) ≡ 0 = omega arith in
       sym (whole ∙ rw e)
-
--- ---- Past the end
-
-pub bits-past : (ws : List ℕ) (i : ℕ) → length ws ≤ i / 32 → false ≡ bitIn ws i
-unfolding bitIn bit
-bits-past ws i h = rw (List·getD-eq-default ws 0 h, zero-div (2 ^ (i % 32)))

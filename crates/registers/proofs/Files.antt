@@ -3,17 +3,18 @@
 use mathlib.Core.Path.{_≡_, refl, sym, ap, _∙_}
 use mathlib.Core.Bool.{Bool, true, false, cond, not, _&&_, _||_}
 use mathlib.Core.List.{List, []}
-use Prim.Native.Nat.{ℕ, zero, suc, _/_, _%_, _^_, _*_, _<_, _≤_}
+use Prim.Native.Nat.{ℕ, zero, suc, _*_, _<_, _≤_}
 use native.Mathlib.Omega.{arith}
-use native.Mathlib.Nat.{zero-div}
 use lib.Dec.{eqb, leb, ltb}
-use lib.ListN.{length, getD, replicate}
+use lib.ListN.{length, replicate}
 use borrow.Author.Tests.{eqb-true, ne-eqb, leb-true, ltb-true, not-true, not-false}
+use Rattle.words.specs.Word.{bitIn}
+use Rattle.words.proofs.WordBits.{zero-bits}
 use Rattle.format.specs.Files.{registersOf}
 use Rattle.format.specs.Kinds.{within}
 use Rattle.format.specs.declared.fields.Declaration.{Declaration}
 use Rattle.format.proofs.Sizes.{no-size}
-use Rattle.registers.specs.Sets.{withAll, bit, bitIn, wordsOf, isIn, none, withRange, anyOf, Registers}
+use Rattle.registers.specs.Sets.{withAll, wordsOf, isIn, none, withRange, anyOf, Registers}
 use Rattle.registers.specs.Rules.{declarationRule}
 use Rattle.registers.specs.declared.sets.Declared.{Declared}
 use Rattle.registers.proofs.Choices.{when-number, chosen, passed, or-false, never}
@@ -55,15 +56,6 @@ one-declared-in k one d f r file q =
     q ∙ sym (or-false (bitIn (wordsOf d k) 0)) ∙ ap (anyOf (bitIn (wordsOf d k)) 0) (sym one) ∙ rw file refl
 
 -- ---- No file
-
-zero-at : (n k : ℕ) → _≡_ {A = ℕ} (getD (replicate n 0) k 0) 0
-zero-at zero k = refl
-zero-at (suc n) zero = refl
-zero-at (suc n) (suc k) = zero-at n k
-
-zero-bits : (n j : ℕ) → bitIn (replicate n 0) j ≡ false
-unfolding bitIn bit
-zero-bits n j = rw (zero-at n (j / 32), zero-div (2 ^ (j % 32)))
 
 any-of-none : (i n : ℕ) → anyOf (λ (j : ℕ). false) i n ≡ false
 any-of-none i zero = refl

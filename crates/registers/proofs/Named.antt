@@ -4,18 +4,18 @@
 use mathlib.Core.Path.{_≡_, refl, sym, ap}
 use mathlib.Core.Bool.{Bool, true, false, cond, not, _&&_, _||_}
 use mathlib.Core.List.{List}
-use Prim.Native.Nat.{ℕ, zero, suc, _+_, _*_, _/_, _<_, _≤_}
+use Prim.Native.Nat.{ℕ, zero, suc, _+_, _*_, _<_, _≤_}
 use native.Mathlib.Omega.{arith}
 use lib.Dec.{eqb, leb}
 use borrow.Author.Tests.{eqb-true, eq-eqb, ne-eqb, leb-true, ltb-true}
 use Rattle.format.specs.Files.{CONST, IN, TEMP, IMM, MEM, registersOf}
-use Rattle.format.specs.Kinds.{destinations, sources, formOf, within}
-use Rattle.format.specs.Fields.{destinationAt, sourceAt}
+use Rattle.format.specs.Kinds.{destinations, sources, formOf, firstSource, sourcePlace, within}
+use Rattle.format.specs.Fields.{destinationAt, sourceAt, negates, indirection, isIndirect}
 use Rattle.format.specs.declared.fields.Destination.{Destination}
 use Rattle.format.specs.declared.fields.Source.{Source}
 use Rattle.format.specs.declared.fields.Declaration.{Declaration}
 use Rattle.registers.specs.Sets.{Registers, none, withRange}
-use Rattle.registers.specs.Rules.{memoryKind, mayNegate, negated, indirect, destinationRule, sourceRule, allSources, allOperands, operandRules, declarationRule, CASE}
+use Rattle.registers.specs.Rules.{memoryKind, mayNegate, destinationRule, sourceRule, allSources, allOperands, operandRules, declarationRule, CASE}
 use Rattle.registers.specs.Found.{destinationFound, sourceFound, operandsFound}
 use Rattle.registers.proofs.Choices.{never}
 use Rattle.registers.proofs.Files.{rule-last}
@@ -66,10 +66,10 @@ module _ (kind : ℕ) (file : List ℕ) (at : ℕ) where
   destination = destinationAt file (at + 1)
 
   abbrev pub source : ℕ → Source
-  source i = sourceAt file (at + 1 + 4 * destinations (formOf kind) + 5 * i)
+  source i = sourceAt file (at + sourcePlace kind i)
 
   module _ (askedD : Destination → Bool) (askedS : Source → Bool) (all : allOperands kind askedD askedS file at ≡ true) where
-    parts : ((eqb (destinations (formOf kind)) 0 || askedD destination) ≡ true) × (allSources askedS file (at + 1 + 4 * destinations (formOf kind)) (sources (formOf kind)) ≡ true)
+    parts : ((eqb (destinations (formOf kind)) 0 || askedD destination) ≡ true) × (allSources askedS file (at + firstSource kind) (sources (formOf kind)) ≡ true)
     unfolding allOperands
     parts = and-both _ _ all
 
@@ -77,7 +77,9 @@ module _ (kind : ℕ) (file : List ℕ) (at : ℕ) where
     destination-asked some = rw (ne-eqb (destinations (formOf kind)) 0 some) at (parts .0)
 
     source-asked : (i : ℕ) → i < sources (formOf kind) → askedS (source i) ≡ true
-    source-asked i h = all-at askedS file (at + 1 + 4 * destinations (formOf kind)) (sources (formOf kind)) i (parts .1) h
+    source-asked i h =
+        let e : at + sourcePlace kind i ≡ at + firstSource kind + 5 * i = omega arith in
+        rw e (all-at askedS file (at + firstSource kind) (sources (formOf kind)) i (parts .1) h)
 
   -- ---- The field rules
 
@@ -94,8 +96,8 @@ module _ (kind : ℕ) (file : List ℕ) (at : ℕ) where
     modifier-most i h =
         leb-true (source i .modifier) 9
         (second-of (eqb (source i .file) CONST || eqb (source i .file) IN || eqb (source i .file) TEMP || eqb (source i .file) IMM)
-        (leb (source i .modifier) 9) (not (negated (source i)) || mayNegate kind)
-        (not (indirect (source i)) || (eqb (source i .file) CONST || eqb (source i .file) TEMP))
+        (leb (source i .modifier) 9) (not (negates (source i)) || mayNegate kind)
+        (not (isIndirect (source i)) || (eqb (source i .file) CONST || eqb (source i .file) TEMP))
         (not (eqb kind CASE) || eqb (source i .file) IMM && eqb (source i .modifier) 0) (source-keeps i h))
 
   -- ---- What is named
@@ -116,15 +118,15 @@ module _ (kind : ℕ) (file : List ℕ) (at : ℕ) where
         (and-both (allOperands kind (destinationFound declared) (sourceFound declared words) file at) (not (memoryKind kind) || declared MEM 0) found .1)
 
     -- A direct source, modifier 0 or 1.
-    module _ (i : ℕ) (h : i < sources (formOf kind)) (direct : source i .modifier / 2 ≡ 0) where
+    module _ (i : ℕ) (h : i < sources (formOf kind)) (direct : indirection (source i) ≡ 0) where
       source-there : sourceFound declared words (source i) ≡ true
       source-there = source-asked (destinationFound declared) (sourceFound declared words) all-found i h
 
-      pub direct-declared : (source i .file ≡ 6 → ⊥) → declared (source i .file) (source i .index) ≡ true
+      pub direct-declared : (source i .file ≡ IMM → ⊥) → declared (source i .file) (source i .index) ≡ true
       unfolding sourceFound
       direct-declared other = rw (eq-eqb _ _ direct, ne-eqb _ _ other) at source-there
 
-      pub direct-given : source i .file ≡ 6 → 4 * source i .index < words
+      pub direct-given : source i .file ≡ IMM → 4 * source i .index < words
       unfolding sourceFound
       direct-given imm = ltb-true (4 * source i .index) words (rw (eq-eqb _ _ direct, eq-eqb _ _ imm) at source-there)
 
@@ -132,5 +134,5 @@ module _ (kind : ℕ) (file : List ℕ) (at : ℕ) where
       pub destination-inside : (destinations (formOf kind) ≡ 0 → ⊥) → destination .index < registersOf (destination .file)
       destination-inside some = inside .below (destination .file) (destination .index) (destination-declared some)
 
-      pub direct-inside : (i : ℕ) → i < sources (formOf kind) → source i .modifier / 2 ≡ 0 → (source i .file ≡ 6 → ⊥) → source i .index < registersOf (source i .file)
+      pub direct-inside : (i : ℕ) → i < sources (formOf kind) → indirection (source i) ≡ 0 → (source i .file ≡ IMM → ⊥) → source i .index < registersOf (source i .file)
       direct-inside i h direct other = inside .below (source i .file) (source i .index) (direct-declared i h direct other)

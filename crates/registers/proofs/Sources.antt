@@ -3,13 +3,13 @@
 use mathlib.Core.Path.{_≡_, sym, ap, _∙_}
 use mathlib.Core.Bool.{Bool, true, false, not, _&&_, _||_}
 use mathlib.Core.List.{List}
-use Prim.Native.Nat.{ℕ, suc, _+_, _-_, _*_, _/_}
+use Prim.Native.Nat.{ℕ, suc, _+_, _-_, _*_}
 use native.Mathlib.Omega.{arith}
 use lib.Dec.{eqb, ltb}
 use borrow.Author.Tests.{eq-eqb, ne-eqb, not-true, not-false}
-use Rattle.format.specs.Files.{ADDR, MEM, registersOf}
-use Rattle.format.specs.Kinds.{destinations, sources, formOf}
-use Rattle.format.specs.Fields.{destinationAt, sourceAt}
+use Rattle.format.specs.Files.{ADDR, IMM, MEM, registersOf}
+use Rattle.format.specs.Kinds.{destinations, sources, formOf, firstSource}
+use Rattle.format.specs.Fields.{destinationAt, sourceAt, indirection}
 use Rattle.format.specs.declared.fields.Destination.{Destination}
 use Rattle.format.specs.declared.fields.Source.{Source}
 use Rattle.registers.specs.Sets.{Registers, anyOf}
@@ -40,15 +40,15 @@ module _ (asked : Source → Bool) (file : List ℕ) (p left : ℕ) where
 
 -- ---- The destination, and the sources after it
 
-pub sources-begin : (asked : Source → Bool) (file : List ℕ) (at kind d n : ℕ) → d ≡ destinations (formOf kind) → n ≡ sources (formOf kind)
-    → allSources asked file (at + 1 + 4 * destinations (formOf kind)) (sources (formOf kind)) ≡ allSources asked file (at + 1 + 4 * d) n
-sources-begin asked file at kind d n ds ns = rw (ds, ns)
+pub sources-begin : (asked : Source → Bool) (file : List ℕ) (at kind first n : ℕ) → first ≡ firstSource kind → n ≡ sources (formOf kind)
+    → allSources asked file (at + firstSource kind) (sources (formOf kind)) ≡ allSources asked file (at + first) n
+sources-begin asked file at kind first n begins ns = rw (begins, ns)
 
 pub all-operands : (kind d : ℕ) (askedD : Destination → Bool) (askedS : Source → Bool) (file : List ℕ) (at : ℕ) (r : Destination) (x y : Bool)
     → d ≡ destinations (formOf kind)
     → r ≡ destinationAt file (at + 1)
     → x ≡ askedD r
-    → y ≡ allSources askedS file (at + 1 + 4 * destinations (formOf kind)) (sources (formOf kind))
+    → y ≡ allSources askedS file (at + firstSource kind) (sources (formOf kind))
     → ((eqb d 0 || x) && y) ≡ allOperands kind askedD askedS file at
 unfolding allOperands
 all-operands kind d askedD askedS file at r x y ds here answer rest = rw (rest, answer, here, ds)
@@ -56,18 +56,18 @@ all-operands kind d askedD askedS file at r x y ds here answer rest = rw (rest, 
 -- ---- What a source names
 
 module _ (declared : Registers) (words : ℕ) (s : Source) where
-  pub source-indirect : (a b : Bool) → (s .modifier / 2 ≡ 0 → ⊥) → a ≡ declared ADDR 0 → b ≡ anyOf (declared (s .file)) 0 (registersOf (s .file))
+  pub source-indirect : (k : ℕ) (a b : Bool) → k ≡ indirection s → (k ≡ 0 → ⊥) → a ≡ declared ADDR 0 → b ≡ anyOf (declared (s .file)) 0 (registersOf (s .file))
       → (a && b) ≡ sourceFound declared words s
   unfolding sourceFound
-  source-indirect a b h e f = rw (ne-eqb _ _ h, e, f)
+  source-indirect k a b i h e f = rw (← i, ne-eqb k 0 h, e, f)
 
-  pub source-immediate : s .modifier / 2 ≡ 0 → s .file ≡ 6 → ltb (4 * s .index) words ≡ sourceFound declared words s
+  pub source-immediate : (k : ℕ) → k ≡ indirection s → k ≡ 0 → s .file ≡ IMM → ltb (4 * s .index) words ≡ sourceFound declared words s
   unfolding sourceFound
-  source-immediate h e = rw (eq-eqb _ _ h, eq-eqb _ _ e)
+  source-immediate k i h e = rw (← i, eq-eqb k 0 h, eq-eqb _ _ e)
 
-  pub source-register : (x : Bool) → s .modifier / 2 ≡ 0 → (s .file ≡ 6 → ⊥) → x ≡ declared (s .file) (s .index) → x ≡ sourceFound declared words s
+  pub source-register : (k : ℕ) (x : Bool) → k ≡ indirection s → k ≡ 0 → (s .file ≡ IMM → ⊥) → x ≡ declared (s .file) (s .index) → x ≡ sourceFound declared words s
   unfolding sourceFound
-  source-register x h e f = rw (eq-eqb _ _ h, ne-eqb _ _ e) f
+  source-register k x i h e f = rw (← i, eq-eqb k 0 h, ne-eqb _ _ e) f
 
 pub written-by : (k kind f : ℕ) (r : Bool) → kind ≡ k → r ≡ destinationFile k f → r ≡ destinationFile kind f
 written-by k kind f r e q = rw e q

@@ -6,11 +6,12 @@ use mathlib.Core.List.{List}
 use mathlib.Core.Bool.{Bool, cond, not, _&&_, _||_}
 use lib.Dec.{eqb, ltb}
 use Rattle.format.specs.Files.{ADDR, IMM, MEM, registersOf}
+use Rattle.format.specs.Fields.{isIndirect}
 use Rattle.format.specs.declared.fields.Destination.{Destination}
 use Rattle.format.specs.declared.fields.Source.{Source}
 use Rattle.format.specs.declared.fields.Declaration.{Declaration}
 use Rattle.registers.specs.Sets.{Registers, anyOf}
-use Rattle.registers.specs.Rules.{indirect, memoryKind, allOperands}
+use Rattle.registers.specs.Rules.{memoryKind, allOperands}
 
 -- "declaration overlaps an earlier one of its file"
 abbrev pub overlaps : Registers → Declaration → Bool
@@ -29,7 +30,7 @@ destinationFound declared d = declared (d .file) (d .index)
 
 unfoldable pub sourceFound : Registers → ℕ → Source → Bool
 sourceFound declared words s =
-    cond (indirect s) (indirectFound declared (s .file)) (directFound declared words (s .file) (s .index))
+    cond (isIndirect s) (indirectFound declared (s .file)) (directFound declared words (s .file) (s .index))
 
 -- Where this fails an instruction is refused with 9, "memory kind without MEM" too.
 unfoldable pub operandsFound : ℕ → Registers → ℕ → List ℕ → ℕ → Bool

@@ -1,12 +1,12 @@
 -- The field rules of document 01, sentence by sentence. A record that breaks one is refused with 7.
 -- Assumes nothing.
-use Prim.Native.Nat.{ℕ, zero, suc, _+_, _*_, _/_, _%_}
+use Prim.Native.Nat.{ℕ, zero, suc, _+_}
 use mathlib.Core.List.{List}
 use mathlib.Core.Bool.{Bool, true, cond, not, _&&_, _||_}
 use lib.Dec.{eqb, leb, ltb}
 use Rattle.format.specs.Files.{CONST, IN, OUT, TEMP, ADDR, IMM, MEM, registersOf}
-use Rattle.format.specs.Kinds.{destinations, sources, formOf, within}
-use Rattle.format.specs.Fields.{destinationAt, sourceAt}
+use Rattle.format.specs.Kinds.{destinations, sources, formOf, firstSource, within}
+use Rattle.format.specs.Fields.{destinationAt, sourceAt, negates, isIndirect}
 use Rattle.format.specs.declared.fields.Destination.{Destination}
 use Rattle.format.specs.declared.fields.Source.{Source}
 use Rattle.format.specs.declared.fields.Declaration.{Declaration}
@@ -59,21 +59,14 @@ destinationRule kind d = destinationFile kind (d .file) && maskRule kind (d .mas
 
 -- ---- Sources
 
--- "modifier 1: negate + 2·indirect, indirect 0 for none" (01, The program file)
-abbrev pub negated : Source → Bool
-negated s = eqb (s .modifier % 2) 1
-
-abbrev pub indirect : Source → Bool
-indirect s = not (eqb (s .modifier / 2) 0)
-
 -- "Sources CONST, IN, TEMP, IMM." "Modifier 0-9." "Negate only in kinds 12-14, 20-37, 60." "Indirect only for CONST and
 -- TEMP." "CASE takes IMM, modifier 0."
 unfoldable pub sourceRule : ℕ → Source → Bool
 sourceRule kind s =
     (eqb (s .file) CONST || eqb (s .file) IN || eqb (s .file) TEMP || eqb (s .file) IMM)
     && leb (s .modifier) 9
-    && (not (negated s) || mayNegate kind)
-    && (not (indirect s) || (eqb (s .file) CONST || eqb (s .file) TEMP))
+    && (not (negates s) || mayNegate kind)
+    && (not (isIndirect s) || (eqb (s .file) CONST || eqb (s .file) TEMP))
     && (not (eqb kind CASE) || eqb (s .file) IMM && eqb (s .modifier) 0)
 
 -- ---- The operands of an instruction
@@ -88,7 +81,7 @@ allSources asked file p (suc n) = asked (sourceAt file p) && allSources asked fi
 unfoldable pub allOperands : ℕ → (Destination → Bool) → (Source → Bool) → List ℕ → ℕ → Bool
 allOperands kind askedD askedS file at =
     (eqb (destinations (formOf kind)) 0 || askedD (destinationAt file (at + 1)))
-    && allSources askedS file (at + 1 + 4 * destinations (formOf kind)) (sources (formOf kind))
+    && allSources askedS file (at + firstSource kind) (sources (formOf kind))
 
 abbrev pub operandRules : ℕ → List ℕ → ℕ → Bool
 operandRules kind file at = allOperands kind (destinationRule kind) (sourceRule kind) file at

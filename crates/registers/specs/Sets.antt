@@ -1,10 +1,10 @@
 -- Sets of registers, and the words that hold such a set, one bit a register.
 -- Assumes nothing.
-use Prim.Native.Nat.{ℕ, zero, suc, _/_, _%_, _^_}
+use Prim.Native.Nat.{ℕ, zero, suc}
 use mathlib.Core.List.{List, []}
 use mathlib.Core.Bool.{Bool, false, cond, _||_}
 use lib.Dec.{eqb}
-use lib.ListN.{getD}
+use Rattle.words.specs.Word.{bitIn}
 use Rattle.format.specs.Files.{CONST, IN, OUT, TEMP, ADDR, MEM}
 use Rattle.format.specs.Kinds.{within}
 use Rattle.registers.specs.declared.sets.Declared.{Declared}
@@ -42,13 +42,6 @@ wordsOf d f =
     (cond (eqb f ADDR) (d .addr)
     (cond (eqb f MEM) (d .mem)
     [])))))
-
--- Bit k of a word, and bit i of words of 32 bits.
-unfoldable pub bit : ℕ → ℕ → Bool
-bit word k = eqb (word / 2 ^ k % 2) 1
-
-unfoldable pub bitIn : List ℕ → ℕ → Bool
-bitIn words i = bit (getD words (i / 32) 0) (i % 32)
 
 -- The registers that the checker's words say are declared.
 unfoldable pub isIn : Declared → Registers

@@ -3,6 +3,8 @@ use crate::sets;
 use crate::sets::Declared;
 use format::fields::Destination;
 use format::fields::Source;
+use format::fields::indirection;
+use format::fields::negates;
 use format::files::ADDR;
 use format::files::CONST;
 use format::files::IMM;
@@ -11,10 +13,11 @@ use format::files::MEM;
 use format::files::OUT;
 use format::files::TEMP;
 use format::kinds::destinations_of;
+use format::kinds::first_source;
 use format::kinds::sources_of;
 ghost use mathlib.Core.Path.{_≡_};
-ghost use Prim.Native.Nat.{_+_, _*_};
-ghost use Rattle.format.specs.Kinds.{destinations, sources, formOf};
+ghost use Prim.Native.Nat.{_+_};
+ghost use Rattle.format.specs.Kinds.{sources, formOf, firstSource};
 ghost use Rattle.registers.specs.Rules.{mayNegate, memoryKind, destinationFile, maskRule, destinationRule, sourceRule, allSources, allOperands, operandRules};
 ghost use Rattle.registers.specs.Sets.{isIn};
 ghost use Rattle.registers.specs.Found.{destinationFound, sourceFound, operandsFound};
@@ -68,20 +71,19 @@ fn source_allowed(kind: u8, s: Source) -> bool
 {
     let file = s.file;
     let modifier = s.modifier;
-    let negated = modifier % 2 == 1;
-    let indirect = modifier / 2 != 0;
+    let indirect = indirection(s) != 0;
     ((file == CONST) | (file == IN) | (file == TEMP) | (file == IMM))
         & (modifier <= 9)
-        & (!negated | may_negate(kind))
+        & (!negates(s) | may_negate(kind))
         & (!indirect | ((file == CONST) | (file == TEMP)))
         & ((kind != 0x92) | ((file == IMM) & (modifier == 0)))
 }
 
 // Whether the sources of an instruction of a kind at a place keep the rules.
 fn sources_allowed(kind: u8, file: &[u8], at: u32) -> bool
-    ensures { λ r. ⌜ r ≡ allSources (sourceRule kind) (now (file .entry)) (at + 1 + 4 * destinations (formOf kind)) (sources (formOf kind)) ⌝ }
+    ensures { λ r. ⌜ r ≡ allSources (sourceRule kind) (now (file .entry)) (at + firstSource kind) (sources (formOf kind)) ⌝ }
 {
-    let mut place = at as usize + 1 + 4 * destinations_of(kind) as usize;
+    let mut place = at as usize + first_source(kind) as usize;
     let mut left = sources_of(kind);
     while left != 0 {
         if !source_allowed(kind, format::fields::source_at(file, place)) {
@@ -109,7 +111,7 @@ fn source_found(d: Declared, words: usize, s: Source) -> bool
 {
     let file = s.file;
     let index = s.index as usize;
-    if s.modifier / 2 != 0 {
+    if indirection(s) != 0 {
         return sets::is_declared(d, ADDR, 0) & sets::is_file_declared(d, file);
     }
     if file == IMM {
@@ -120,9 +122,9 @@ fn source_found(d: Declared, words: usize, s: Source) -> bool
 
 // Whether what the sources of an instruction of a kind at a place name is there.
 fn sources_found(kind: u8, d: Declared, words: usize, file: &[u8], at: u32) -> bool
-    ensures { λ r. ⌜ r ≡ allSources (sourceFound (isIn d) words) (now (file .entry)) (at + 1 + 4 * destinations (formOf kind)) (sources (formOf kind)) ⌝ }
+    ensures { λ r. ⌜ r ≡ allSources (sourceFound (isIn d) words) (now (file .entry)) (at + firstSource kind) (sources (formOf kind)) ⌝ }
 {
-    let mut place = at as usize + 1 + 4 * destinations_of(kind) as usize;
+    let mut place = at as usize + first_source(kind) as usize;
     let mut left = sources_of(kind);
     while left != 0 {
         if !source_found(d, words, format::fields::source_at(file, place)) {

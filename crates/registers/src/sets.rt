@@ -8,12 +8,14 @@ use format::files::MEM;
 use format::files::OUT;
 use format::files::TEMP;
 use format::files::registers_of;
+use words::bits::bit_in;
 ghost use mathlib.Core.Path.{_≡_};
 ghost use mathlib.Core.Bool.{cond};
 ghost use Prim.Native.Nat.{_<_, _≤_, _+_, _-_, _*_};
 ghost use lib.ListN.{length};
+ghost use Rattle.words.specs.Word.{isSet, bitIn};
 ghost use Rattle.format.specs.Files.{registersOf};
-ghost use Rattle.registers.specs.Sets.{bit, bitIn, isIn, none, withOne, withAll, withRange, anyOf};
+ghost use Rattle.registers.specs.Sets.{isIn, none, withOne, withAll, withRange, anyOf};
 ghost use Rattle.registers.specs.Rules.{declarationRule};
 ghost use Rattle.registers.specs.Found.{overlaps};
 
@@ -40,18 +42,6 @@ pub fn empty() -> Declared
     }
 }
 
-// Bit i of words of 32 bits, false past the end.
-fn has(words: &[u32], i: usize) -> bool
-    ensures { λ r. ⌜ r ≡ bitIn (now (words .entry)) i ⌝ }
-{
-    let w = i / 32;
-    if w < words.len() {
-        (words[w] >> (i % 32) as u32) % 2 == 1
-    } else {
-        false
-    }
-}
-
 // Whether a bit from first to last is set.
 fn has_any(words: &[u32], first: u16, last: u16) -> bool
     ensures { λ r. ⌜ r ≡ anyOf (bitIn (now (words .entry))) first (last + 1 - first) ⌝ }
@@ -59,7 +49,7 @@ fn has_any(words: &[u32], first: u16, last: u16) -> bool
     let end = last as usize;
     let mut i = first as usize;
     while i <= end {
-        if has(words, i) {
+        if bit_in(words, i) {
             return true;
         }
         i += 1;
@@ -69,7 +59,7 @@ fn has_any(words: &[u32], first: u16, last: u16) -> bool
 
 // Whether a word has a bit set.
 fn has_bits(word: u32) -> bool
-    ensures { λ r. ⌜ r ≡ anyOf (bit word) 0 32 ⌝ }
+    ensures { λ r. ⌜ r ≡ anyOf (isSet word) 0 32 ⌝ }
 {
     word != 0
 }
@@ -115,12 +105,12 @@ pub fn is_declared(d: Declared, file: u8, index: usize) -> bool
     ensures { λ r. ⌜ r ≡ isIn d file index ⌝ }
 {
     match file {
-        CONST => has(&d.consts, index),
-        IN => has(&d.ins, index),
-        OUT => has(&d.outs, index),
-        TEMP => has(&d.temps, index),
-        ADDR => has(&d.addr, index),
-        MEM => has(&d.mem, index),
+        CONST => bit_in(&d.consts, index),
+        IN => bit_in(&d.ins, index),
+        OUT => bit_in(&d.outs, index),
+        TEMP => bit_in(&d.temps, index),
+        ADDR => bit_in(&d.addr, index),
+        MEM => bit_in(&d.mem, index),
         _ => false,
     }
 }
@@ -134,8 +124,8 @@ pub fn is_file_declared(d: Declared, file: u8) -> bool
         IN => has_some(&d.ins),
         OUT => has_some(&d.outs),
         TEMP => has_some(&d.temps),
-        ADDR => has(&d.addr, 0),
-        MEM => has(&d.mem, 0),
+        ADDR => bit_in(&d.addr, 0),
+        MEM => bit_in(&d.mem, 0),
         _ => false,
     }
 }

@@ -22,7 +22,7 @@ bit-cases P z o (suc (suc x)) l = absurd (omega arith)
 
 -- AND, OR and XOR go bit by bit: set in both, in one at least, in one only
 module _ (a b i : ℕ) where
-  by-bits : (P : ℕ → ℕ → Type 0) → P 0 0 → P 0 1 → P 1 0 → P 1 1 → P (bit a i) (bit b i)
+  pub by-bits : (P : ℕ → ℕ → Type 0) → P 0 0 → P 0 1 → P 1 0 → P 1 1 → P (bit a i) (bit b i)
   by-bits P zz zo oz oo =
       bit-cases (λ x. P x (bit b i)) (bit-cases (P 0) zz zo (bit b i) (bit-lt b i))
       (bit-cases (P 1) oz oo (bit b i) (bit-lt b i)) (bit a i) (bit-lt a i)

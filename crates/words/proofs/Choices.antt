@@ -1,7 +1,7 @@
--- A choice by a test, as a branch of the code leaves it.
+-- A choice by a test, as a branch of the code leaves it; tests in either order.
 use Prim.Native.Nat.{_<_, _≤_, ℕ}
-use mathlib.Core.Path.{_≡_}
-use mathlib.Core.Bool.{Bool, cond, false, true}
+use mathlib.Core.Path.{_≡_, refl}
+use mathlib.Core.Bool.{Bool, cond, false, true, _||_}
 use borrow.Author.Tests.{eq-eqb, le-ltb, lt-ltb, ne-eqb}
 use lib.Dec.{eqb, ltb}
 
@@ -23,3 +23,9 @@ module _ (x y : ℕ) where
 
   pub when-not-less : (a b : ℕ) → b ≤ a → y ≡ cond (ltb a b) x y
   when-not-less a b h = simp (le-ltb a b h)
+
+pub or-comm : (a b : Bool) → (a || b) ≡ (b || a)
+or-comm true true = refl
+or-comm true false = refl
+or-comm false true = refl
+or-comm false false = refl

@@ -1,8 +1,8 @@
-// Bitwise results, counts and places of bits, and the reversal.
+// Bitwise results, single bits, counts and places of bits, and the reversal.
 use super::sums::LEAST32;
 ghost use mathlib.Core.Path.{_≡_};
 ghost use lib.Bits.{bitAnd, bitOr, bitXor};
-ghost use Rattle.words.specs.Word.{compl, popc, lsb, umsb, imsb, brev};
+ghost use Rattle.words.specs.Word.{bitIn, compl, popc, lsb, umsb, imsb, brev};
 
 // AND, ATOMAND.
 pub fn and32(a: u32, b: u32) -> u32
@@ -79,4 +79,16 @@ pub fn brev32(a: u32) -> u32
         left = left / 2;
     }
     done
+}
+
+// Whether bit i of words of 32 bits is set.
+pub fn bit_in(words: &[u32], i: usize) -> bool
+    ensures { λ r. ⌜ r ≡ bitIn (now (words .entry)) i ⌝ }
+{
+    let w = i / 32;
+    if w < words.len() {
+        (words[w] >> (i % 32) as u32) % 2 == 1
+    } else {
+        false
+    }
 }

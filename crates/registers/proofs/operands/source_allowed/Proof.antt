@@ -9,5 +9,5 @@ unfolding sourceRule
 source-allowed-spec =
     tie.close
     (tie.spec
-    (search needs)
-    (λ c. rw (c .may-negate .ensures)))
+    (search needs) (search needs) (search needs)
+    (λ c. rw (c .may-negate .ensures, c .before .negates .ensures, c .before .before .indirection .ensures)))

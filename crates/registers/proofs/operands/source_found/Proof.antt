@@ -8,7 +8,7 @@ pub source-found-spec : {M : Type 1} → statement M
 source-found-spec =
     tie.close
     (tie.spec
-    (search needs) (search needs) (search needs)
+    (search needs) (search needs) (search needs) (search needs)
     (λ c. search (needs, source-indirect))
     (search needs)
     (λ c. search (needs, source-immediate))

@@ -3,7 +3,7 @@ use borrow.Author.Needs.{needs}
 use native.Mathlib.Omega.{arith}
 use mathlib.Core.Path.{_≡_}
 use Prim.Native.Nat.{_+_, _*_, _≤_}
-use Rattle.format.specs.Kinds.{destinations, sources, formOf}
+use Rattle.format.specs.Kinds.{sources, formOf, firstSource}
 use Rattle.registers.specs.Rules.{sourceRule, allSources}
 use Rattle.registers.proofs.Sources.{sources-begin, sources-stop, sources-on, sources-end}
 use Rattle.registers.proofs.operands.sources_allowed.Statement.{statement}
@@ -12,7 +12,7 @@ use Rattle.registers.proofs.operands.sources_allowed.Tie as tie
 abbrev Inv-loop : tie.InvT-loop
 Inv-loop kind file at place₀ left₀ place left =
     (place + 5 * left ≤ place₀ + 5 * left₀)
-    × (allSources (sourceRule kind) file (at + 1 + 4 * destinations (formOf kind)) (sources (formOf kind)) ≡ allSources (sourceRule kind) file place left)
+    × (allSources (sourceRule kind) file (at + firstSource kind) (sources (formOf kind)) ≡ allSources (sourceRule kind) file place left)
 
 abbrev μ-loop : tie.MeasureT-loop
 μ-loop kind file at place₀ left₀ place left = left
@@ -22,7 +22,7 @@ sources-allowed-spec =
     tie.close
     (tie.spec
     Inv-loop μ-loop
-    (search needs) (search needs) (search needs) (search needs) (search needs) (search needs)
+    (search needs) (search needs) (search needs) (search needs)
     (λ c. (search needs, search (needs, sources-begin)))
     (search needs) (search needs)
     (λ c. search (needs, sources-stop))

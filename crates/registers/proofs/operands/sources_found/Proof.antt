@@ -3,7 +3,7 @@ use borrow.Author.Needs.{needs}
 use native.Mathlib.Omega.{arith}
 use mathlib.Core.Path.{_≡_}
 use Prim.Native.Nat.{_+_, _*_, _≤_}
-use Rattle.format.specs.Kinds.{destinations, sources, formOf}
+use Rattle.format.specs.Kinds.{sources, formOf, firstSource}
 use Rattle.registers.specs.Sets.{isIn}
 use Rattle.registers.specs.Rules.{allSources}
 use Rattle.registers.specs.Found.{sourceFound}
@@ -14,7 +14,7 @@ use Rattle.registers.proofs.operands.sources_found.Tie as tie
 abbrev Inv-loop : tie.InvT-loop
 Inv-loop kind d words file at place₀ left₀ place left =
     (place + 5 * left ≤ place₀ + 5 * left₀)
-    × (allSources (sourceFound (isIn d) words) file (at + 1 + 4 * destinations (formOf kind)) (sources (formOf kind)) ≡ allSources (sourceFound (isIn d) words) file place left)
+    × (allSources (sourceFound (isIn d) words) file (at + firstSource kind) (sources (formOf kind)) ≡ allSources (sourceFound (isIn d) words) file place left)
 
 abbrev μ-loop : tie.MeasureT-loop
 μ-loop kind d words file at place₀ left₀ place left = left
@@ -24,7 +24,7 @@ sources-found-spec =
     tie.close
     (tie.spec
     Inv-loop μ-loop
-    (search needs) (search needs) (search needs) (search needs) (search needs) (search needs)
+    (search needs) (search needs) (search needs) (search needs)
     (λ c. (search needs, search (needs, sources-begin)))
     (search needs) (search needs)
     (λ c. search (needs, sources-stop))

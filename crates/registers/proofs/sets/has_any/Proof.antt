@@ -3,7 +3,8 @@ use borrow.Author.Needs.{needs}
 use mathlib.Core.Path.{_≡_, refl}
 use Prim.Native.Nat.{_+_, _-_}
 use Rattle.registers.proofs.Bits.{any-found, any-on, any-end}
-use Rattle.registers.specs.Sets.{bitIn, anyOf}
+use Rattle.words.specs.Word.{bitIn}
+use Rattle.registers.specs.Sets.{anyOf}
 use Rattle.registers.proofs.sets.has_any.Statement.{statement}
 use Rattle.registers.proofs.sets.has_any.Tie as tie
 

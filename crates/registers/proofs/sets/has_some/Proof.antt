@@ -5,7 +5,8 @@ use Prim.Native.Nat.{_*_, _-_}
 use native.Mathlib.Nat.{sub-zero}
 use lib.ListN.{length}
 use Rattle.registers.proofs.Bits.{some-found, some-on, some-end}
-use Rattle.registers.specs.Sets.{bitIn, anyOf}
+use Rattle.words.specs.Word.{bitIn}
+use Rattle.registers.specs.Sets.{anyOf}
 use Rattle.registers.proofs.sets.has_some.Statement.{statement}
 use Rattle.registers.proofs.sets.has_some.Tie as tie
 

@@ -5,7 +5,7 @@ use mathlib.Core.Path.{_≡_}
 use Prim.Native.Nat.{_+_, _-_, _≤_}
 use lib.ListN.{length}
 use Rattle.registers.proofs.Bits.{below, none-yet, more-below, all-below}
-use Rattle.registers.specs.Sets.{bitIn}
+use Rattle.words.specs.Word.{bitIn}
 use Rattle.registers.proofs.sets.set_bits.Statement.{statement}
 use Rattle.registers.proofs.sets.set_bits.Tie as tie
 

@@ -1,0 +1,16 @@
+-- The bit of the word is the bit of the words; past the end a word counts as 0.
+use borrow.Author.Needs.{needs}
+use mathlib.Core.Path.{refl}
+use Rattle.words.specs.Word.{bitIn}
+use Rattle.words.proofs.WordBits.{bits-past}
+use Rattle.words.proofs.bits.bit_in.Statement.{statement}
+use Rattle.words.proofs.bits.bit_in.Tie as tie
+
+pub bit-in-spec : {M : Type 1} → statement M
+unfolding bitIn
+bit-in-spec =
+    tie.close
+    (tie.spec
+    (search needs) (search needs) (search needs) (search needs)
+    (λ c. refl)
+    (λ c. search (needs, bits-past)))
