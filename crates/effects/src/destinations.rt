@@ -1,6 +1,10 @@
 // Destinations: results written by register number to the components of a mask.
 use crate::lent::set_word;
 use format::fields::Destination;
+use format::files::ADDR_FROM;
+use format::files::OUT;
+use format::files::TEMP;
+use format::files::TEMP_FROM;
 ghost use mathlib.Core.Path.{_≡_};
 ghost use Prim.Native.Nat.{_+_, _<_};
 ghost use lib.Dec.{eqb};
@@ -30,9 +34,9 @@ pub fn first_word(d: Destination) -> u32
 {
     let file = d.file;
     match file {
-        3 => 4 * d.index as u32,
-        4 => 128 + 4 * d.index as u32,
-        _ => 1152,
+        OUT => 4 * d.index as u32,
+        TEMP => TEMP_FROM + 4 * d.index as u32,
+        _ => ADDR_FROM,
     }
 }
 

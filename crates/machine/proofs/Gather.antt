@@ -11,7 +11,7 @@ use borrow.Author.Tests.{ltb-true, ltb-false}
 use lib.Dec.{eqb, ltb}
 use lib.ListN.{length, getD, set, take, drop, replicate, length-replicate, length-take, getD-replicate, List·getD-append, List·getD-eq-default}
 use lib.Seq.{getD-append-add, getD-drop, getD-take, length-paste, length-paste-head, paste, paste-suc, paste-zero, take-all}
-use Rattle.words.specs.Word.{bit}
+use Rattle.words.specs.Word.{bitIn, isSet}
 use Rattle.machine.specs.Bank.{envIn, laid, part}
 use Rattle.machine.specs.Operands.{declaredIn, envWith, wordIn}
 
@@ -124,11 +124,11 @@ part-is bank first n words short held = fun-ext λ k. on k (ltb k n) refl
 -- What is declared is asked of the words alone.
 abbrev declaredBy : (ℕ → ℕ) → ℕ → ℕ → Bool
 declaredBy word f i =
-    cond (eqb f 1) (ltb i 1024 && eqb (bit (word (i / 32)) (i % 32)) 1)
-    (cond (eqb f 4) (ltb i 256 && eqb (bit (word ((1024 + i) / 32)) ((1024 + i) % 32)) 1) false)
+    cond (eqb f 1) (ltb i 1024 && isSet (word (i / 32)) (i % 32))
+    (cond (eqb f 4) (ltb i 256 && isSet (word ((1024 + i) / 32)) ((1024 + i) % 32)) false)
 
 declared-same : (a b : List ℕ) → wordIn a ≡ wordIn b → declaredIn a ≡ declaredIn b
-unfolding declaredIn
+unfolding declaredIn bitIn
 declared-same a b h = ap declaredBy h
 
 -- ---- No more words than a part has room for

@@ -1,12 +1,12 @@
 -- Sources: a register number with its address, the words of each file, and the four components.
 -- Assumes nothing.
 use Rattle.machine.specs.Bank.{envIn, part}
-use Rattle.machine.specs.Operands.{Env, bitIn, declaredIn, firstSource, fourFrom, ifDeclared, negated, nthSource, registerOf, registerWords, selected, sourceOf, sourcesOf, taken, wordIn}
+use Rattle.machine.specs.Operands.{Env, declaredIn, fourFrom, ifDeclared, negated, nthSource, registerOf, registerWords, selected, sourceOf, sourcesOf, taken, wordIn}
 use Rattle.effects.specs.Destinations.{components, zeros}
-use Rattle.words.specs.Word.{neg, signed}
-use Rattle.format.specs.Kinds.{formOf, sources}
+use Rattle.words.specs.Word.{bitIn, neg, signed}
+use Rattle.format.specs.Kinds.{firstSource, formOf, sources}
 use Rattle.format.proofs.Ranges.{in-range}
-use Rattle.format.specs.Fields.{sourceAt}
+use Rattle.format.specs.Fields.{indirection, negates, sourceAt}
 use Prim.Native.Nat.{_%_, _*_, _+_, _-_, _/_, _<_, _^_, _≤_, suc, zero, ℕ}
 use mathlib.Core.Path.{_∙_, _≡_, ap, refl, sym}
 use mathlib.Core.Bool.{Bool, cond, false, true}
@@ -29,9 +29,6 @@ rest-of l n = take-all (length l - n) (drop n l) (omega (arith, length-drop n l)
 
 pub past-rest : (l : List ℕ) (n : ℕ) → length l ≤ n → [] ≡ drop n l
 past-rest l n h = sym (drop-of-length-le l h)
-
-pub bit-is : (l : List ℕ) (i w : ℕ) → w ≡ getD l (i / 32) 0 → eqb (w / 2 ^ (i % 32) % 2) 1 ≡ bitIn l i
-bit-is l i w e = rw e
 
 -- ---- declared registers
 
@@ -84,15 +81,15 @@ module _ (d : ℕ → ℕ → Bool) (f i a : ℕ) where
     pub indirect-negative : i < 4294967295 - a + 1 → Nowhere ≡ ifDeclared d f (pos i +ℤ signed 32 a)
     indirect-negative k = rw minus (simp (lt-ltb i (4294967295 - a + 1) k))
 
-module _ (d : ℕ → ℕ → Bool) (r : List ℕ) (s : Source) where
-  pub register-direct : s .modifier / 2 ≡ 0 → Register (s .index) ≡ registerOf d r s
+module _ (s : Source) (k : ℕ) (ek : k ≡ indirection s) where
+  pub register-direct : (d : ℕ → ℕ → Bool) (r : List ℕ) → k ≡ 0 → Register (s .index) ≡ registerOf d r s
   unfolding registerOf
-  register-direct h = rw h
+  register-direct d r h = rw (← ek, h)
 
-pub register-indirect : (l m r : List ℕ) (s : Source) (a : ℕ) (p : Place) → (s .modifier / 2 ≡ 0 → ⊥) → a ≡ getD r (1151 + s .modifier / 2) 0 → l ≡ m
-    → p ≡ ifDeclared (declaredIn l) (s .file) (pos (s .index) +ℤ signed 32 a) → p ≡ registerOf (declaredIn m) r s
-unfolding registerOf
-register-indirect l m r s a p h ea el ep = cc (ne-eqb (s .modifier / 2) 0 h)
+  pub register-indirect : (l m r : List ℕ) (a : ℕ) (p : Place) → (k ≡ 0 → ⊥) → a ≡ getD r (1151 + k) 0 → l ≡ m
+      → p ≡ ifDeclared (declaredIn l) (s .file) (pos (s .index) +ℤ signed 32 a) → p ≡ registerOf (declaredIn m) r s
+  unfolding registerOf
+  register-indirect l m r a p h ea el ep = rw (← ek, ne-eqb k 0 h, ← ea, ← el) ep
 
 -- ---- components
 
@@ -104,8 +101,8 @@ zero-word (suc (suc zero)) = refl
 zero-word (suc (suc (suc zero))) = refl
 zero-word (suc (suc (suc (suc k)))) = refl
 
-zero-negated : (m : ℕ) → negated m 0 ≡ 0
-zero-negated m = on (eqb (m % 2) 1)
+zero-negated : (s : Source) → negated s 0 ≡ 0
+zero-negated s = on (negates s)
   where
     on : (t : Bool) → cond t (neg 32 0) 0 ≡ 0
     on true = refl
@@ -140,16 +137,17 @@ selected-below swizzle i k e = rw e (mod-lt (swizzle / 2 ^ (2 * i)) (omega arith
 
 module _ (l : List ℕ) (s : Source) (i j k m : ℕ) (ei : i ≡ selected (s .swizzle) 0) (ej : j ≡ selected (s .swizzle) 1) (ek : k ≡ selected (s .swizzle) 2) (em : m ≡ selected (s .swizzle) 3) where
   -- the four components, which all go the same way
-  by-way : (f : ℕ → ℕ) → ((w : ℕ) → negated (s .modifier) w ≡ f w) → f (getD l i 0) ∷ f (getD l j 0) ∷ f (getD l k 0) ∷ f (getD l m 0) ∷ [] ≡ taken l s
+  by-way : (f : ℕ → ℕ) → ((w : ℕ) → negated s w ≡ f w) → f (getD l i 0) ∷ f (getD l j 0) ∷ f (getD l k 0) ∷ f (getD l m 0) ∷ [] ≡ taken l s
   unfolding taken components
   by-way f h = rw (ei, ej, ek, em) (sym (simp h))
 
-  taken-plain : (s .modifier % 2 ≡ 1 → ⊥) → getD l i 0 ∷ getD l j 0 ∷ getD l k 0 ∷ getD l m 0 ∷ [] ≡ taken l s
-  taken-plain h = by-way (λ w. w) (λ w. rw (ne-eqb (s .modifier % 2) 1 h))
+  module _ (t : Bool) (et : t ≡ negates s) where
+    taken-plain : t ≡ false → getD l i 0 ∷ getD l j 0 ∷ getD l k 0 ∷ getD l m 0 ∷ [] ≡ taken l s
+    taken-plain h = by-way (λ w. w) (λ w. rw (← et, h))
 
-  taken-negated : (x y z w : ℕ) → s .modifier % 2 ≡ 1 → x ≡ neg 32 (getD l i 0) → y ≡ neg 32 (getD l j 0) → z ≡ neg 32 (getD l k 0) → w ≡ neg 32 (getD l m 0)
-      → x ∷ y ∷ z ∷ w ∷ [] ≡ taken l s
-  taken-negated x y z w h ex ey ez ew = rw (ex, ey, ez, ew) (by-way (neg 32) (λ w. rw h))
+    taken-negated : (x y z w : ℕ) → t ≡ true → x ≡ neg 32 (getD l i 0) → y ≡ neg 32 (getD l j 0) → z ≡ neg 32 (getD l k 0) → w ≡ neg 32 (getD l m 0)
+        → x ∷ y ∷ z ∷ w ∷ [] ≡ taken l s
+    taken-negated x y z w h ex ey ez ew = rw (ex, ey, ez, ew) (by-way (neg 32) (λ w. rw (← et, h)))
 
 pub word-there : (l : List ℕ) (first swizzle i k : ℕ) → first + 4 ≤ length l → k ≡ selected swizzle i → first + k < length l
 word-there l first swizzle i k there e = omega (arith, selected-below swizzle i k e)
@@ -160,14 +158,15 @@ module _ (l : List ℕ) (first : ℕ) (s : Source) (i j k m : ℕ)
     word : (c n : ℕ) → n ≡ selected (s .swizzle) c → wordIn l (first + n) ≡ wordIn (fourFrom (wordIn l) first) n
     word c n e = four-word (wordIn l) first n (selected-below (s .swizzle) c n e)
 
-    pub pick-plain : (s .modifier % 2 ≡ 1 → ⊥) → wordIn l (first + i) ∷ wordIn l (first + j) ∷ wordIn l (first + k) ∷ wordIn l (first + m) ∷ [] ≡ taken (fourFrom (wordIn l) first) s
-    pick-plain h = rw (word 0 i ei, word 1 j ej, word 2 k ek, word 3 m em) (taken-plain (fourFrom (wordIn l) first) s i j k m ei ej ek em h)
+    module _ (t : Bool) (et : t ≡ negates s) where
+      pub pick-plain : t ≡ false → wordIn l (first + i) ∷ wordIn l (first + j) ∷ wordIn l (first + k) ∷ wordIn l (first + m) ∷ [] ≡ taken (fourFrom (wordIn l) first) s
+      pick-plain h = rw (word 0 i ei, word 1 j ej, word 2 k ek, word 3 m em) (taken-plain (fourFrom (wordIn l) first) s i j k m ei ej ek em t et h)
 
-    pub pick-negated : (x y z w : ℕ) → s .modifier % 2 ≡ 1 → x ≡ neg 32 (wordIn l (first + i)) → y ≡ neg 32 (wordIn l (first + j)) → z ≡ neg 32 (wordIn l (first + k)) → w ≡ neg 32 (wordIn l (first + m))
-        → x ∷ y ∷ z ∷ w ∷ [] ≡ taken (fourFrom (wordIn l) first) s
-    pick-negated x y z w h ex ey ez ew =
-        taken-negated (fourFrom (wordIn l) first) s i j k m ei ej ek em x y z w h
-        (ex ∙ ap (neg 32) (word 0 i ei)) (ey ∙ ap (neg 32) (word 1 j ej)) (ez ∙ ap (neg 32) (word 2 k ek)) (ew ∙ ap (neg 32) (word 3 m em))
+      pub pick-negated : (x y z w : ℕ) → t ≡ true → x ≡ neg 32 (wordIn l (first + i)) → y ≡ neg 32 (wordIn l (first + j)) → z ≡ neg 32 (wordIn l (first + k)) → w ≡ neg 32 (wordIn l (first + m))
+          → x ∷ y ∷ z ∷ w ∷ [] ≡ taken (fourFrom (wordIn l) first) s
+      pick-negated x y z w h ex ey ez ew =
+          taken-negated (fourFrom (wordIn l) first) s i j k m ei ej ek em t et x y z w h
+          (ex ∙ ap (neg 32) (word 0 i ei)) (ey ∙ ap (neg 32) (word 1 j ej)) (ez ∙ ap (neg 32) (word 2 k ek)) (ew ∙ ap (neg 32) (word 3 m em))
 
 -- ---- the register of each file
 
@@ -227,14 +226,6 @@ module _ (e : Env) (r : List ℕ) (s : Source) (p : Place) (ep : p ≡ registerO
 
 pub four-at-most : (k n : ℕ) → k < 256 → n ≡ sources (formOf k) → n ≤ 4
 four-at-most k n h e = rw e (leb→le (sources (formOf k)) 4 (in-range (λ k. leb (sources (formOf k)) 4) 0 256 k tt (omega arith) h))
-
-pub first-after-destination : (k : ℕ) → k < 0x80 → 5 ≡ firstSource k
-unfolding firstSource
-first-after-destination k h = rw (lt-ltb k 0x80 h)
-
-pub first-after-kind : (k : ℕ) → 0x80 ≤ k → 1 ≡ firstSource k
-unfolding firstSource
-first-after-kind k h = rw (le-ltb k 0x80 h)
 
 module _ (e : Env) (r bytes : List ℕ) where
   abbrev kept : ℕ → ℕ → List ℕ

@@ -6,10 +6,10 @@ use mathlib.Core.List.{List, [], _∷_}
 use lib.Dec.{ltb, eqb}
 use lib.ListN.{getD}
 use lib.IntN.{ℤ, pos, negsuc, _+ℤ_}
-use Rattle.words.specs.Word.{bit, neg, signed}
+use Rattle.words.specs.Word.{bitIn, neg, signed}
 use Rattle.format.specs.Files.{CONST, IN, TEMP, IMM, tempFrom, addrFrom}
-use Rattle.format.specs.Kinds.{formOf, sources}
-use Rattle.format.specs.Fields.{sourceAt}
+use Rattle.format.specs.Kinds.{formOf, sources, sourcePlace}
+use Rattle.format.specs.Fields.{sourceAt, negates, indirection}
 use Rattle.format.specs.declared.fields.Source.{Source}
 use Rattle.effects.specs.Destinations.{components, zeros}
 use Rattle.machine.specs.declared.operands.Place.{Place}
@@ -40,9 +40,6 @@ envWith declared immediates inputs constants =
 
 -- "which registers of each file are declared, one bit each" (01, Forms): 1,024 bits for CONST, then 256 for TEMP, of
 -- which alone an indirect operand asks.
-abbrev pub bitIn : List ℕ → ℕ → Bool
-bitIn words i = eqb (bit (wordIn words (i / 32)) (i % 32)) 1
-
 unfoldable pub declaredIn : List ℕ → ℕ → ℕ → Bool
 declaredIn words f i =
     cond (eqb f CONST) (ltb i 1024 && bitIn words i)
@@ -64,27 +61,27 @@ registerWords e r f n =
     (cond (eqb f IMM) (fourFrom (e .immediates) (4 * n)) zeros)))
 
 -- "An indirect index is index plus ADDR as a signed number; a negative or undeclared sum reads 0." (01, Instruction corners)
--- "modifier 1: negate + 2·indirect, indirect 0 for none or 1 to 4 for ADDR[0].x to .w" (01, The program file); "ADDR from 1152"
+-- "indirect 0 for none or 1 to 4 for ADDR[0].x to .w" (01, The program file); "ADDR from 1152"
 abbrev pub ifDeclared : (ℕ → ℕ → Bool) → ℕ → ℤ → Place
 ifDeclared declared f (pos n) = cond (declared f n) (Register n) Nowhere
 ifDeclared declared f (negsuc n) = Nowhere
 
 unfoldable pub registerOf : (ℕ → ℕ → Bool) → List ℕ → Source → Place
 registerOf declared r s =
-    cond (eqb (s .modifier / 2) 0) (Register (s .index))
-    (ifDeclared declared (s .file) (pos (s .index) +ℤ signed 32 (wordIn r (addrFrom - 1 + s .modifier / 2))))
+    cond (eqb (indirection s) 0) (Register (s .index))
+    (ifDeclared declared (s .file) (pos (s .index) +ℤ signed 32 (wordIn r (addrFrom - 1 + indirection s))))
 
 -- "swizzle 1 (two bits per component, x lowest)" (01, The program file): component i is taken from this one.
 abbrev pub selected : ℕ → ℕ → ℕ
 selected swizzle i = swizzle / 2 ^ (2 * i) % 4
 
 -- "Negate is two's complement." (01, Instruction corners)
-abbrev pub negated : ℕ → ℕ → ℕ
-negated modifier w = cond (eqb (modifier % 2) 1) (neg 32 w) w
+abbrev pub negated : Source → ℕ → ℕ
+negated s w = cond (negates s) (neg 32 w) w
 
 -- What a source takes of a register's words.
 unfoldable pub taken : List ℕ → Source → List ℕ
-taken words s = components (λ i. negated (s .modifier) (wordIn words (selected (s .swizzle) i)))
+taken words s = components (λ i. negated s (wordIn words (selected (s .swizzle) i)))
 
 abbrev pub takenAt : Env → List ℕ → Source → Place → List ℕ
 takenAt e r s (Register n) = taken (registerWords e r (s .file) n) s
@@ -100,14 +97,10 @@ sourceOf e r s = takenAt e r s (registerOf (e .declared) r s)
 abbrev pub kindByte : List ℕ → ℕ
 kindByte bytes = getD bytes 0 0
 
--- Sources stand after the kind, or after the destination, which instructions below kind 80 have; five bytes each.
-unfoldable pub firstSource : ℕ → ℕ
-firstSource k = cond (ltb k 0x80) 5 1
-
 -- What source i reads; one that the kind does not have is 0.
 unfoldable pub nthSource : Env → List ℕ → List ℕ → ℕ → List ℕ
 nthSource e r bytes i =
-    cond (ltb i (sources (formOf (kindByte bytes)))) (sourceOf e r (sourceAt bytes (firstSource (kindByte bytes) + 5 * i)))
+    cond (ltb i (sources (formOf (kindByte bytes)))) (sourceOf e r (sourceAt bytes (sourcePlace (kindByte bytes) i)))
     zeros
 
 abbrev pub noSources : List (List ℕ)

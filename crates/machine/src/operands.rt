@@ -3,15 +3,25 @@ use crate::bank::Bank;
 use crate::parts;
 use effects::lent::word_at;
 use format::fields::Source;
+use format::fields::indirection;
+use format::fields::negates;
 use format::fields::source_at;
+use format::files::ADDR_FROM;
+use format::files::CONST;
+use format::files::IMM;
+use format::files::IN;
+use format::files::TEMP;
+use format::files::TEMP_FROM;
+use format::kinds::first_source;
 use format::kinds::sources_of;
+use words::bits::bit_in;
 use words::sums::neg32;
 ghost use mathlib.Core.Path.{_≡_};
 ghost use Prim.Native.Nat.{_+_, _<_, _≤_, _^_};
 ghost use lib.IntN.{pos, _+ℤ_};
 ghost use lib.ListN.{length};
 ghost use Rattle.words.specs.Word.{signed};
-ghost use Rattle.machine.specs.Operands.{wordIn, bitIn, declaredIn, ifDeclared, registerOf, selected, fourFrom, registerWords, taken, sourceOf, kindByte, firstSource, noSources, sourcesOf};
+ghost use Rattle.machine.specs.Operands.{wordIn, declaredIn, ifDeclared, registerOf, selected, fourFrom, registerWords, taken, sourceOf, kindByte, noSources, sourcesOf};
 ghost use Rattle.machine.specs.Bank.{envIn};
 
 // The register that a source names, or none.
@@ -20,23 +30,17 @@ pub enum Place {
     Nowhere,
 }
 
-fn bit_in(words: &[u32], i: u32) -> bool
-    ensures { λ r. ⌜ r ≡ bitIn (now (words .entry)) i ⌝ }
-{
-    (word_at(words, (i / 32) as usize) >> (i % 32)) % 2 == 1
-}
-
 // Whether a CONST or TEMP register is declared.
 fn is_declared(declared: &[u32], file: u8, n: u32) -> bool
     ensures { λ r. ⌜ r ≡ declaredIn (now (declared .entry)) file n ⌝ }
 {
-    if file == 1 {
+    if file == CONST {
         if n < 1024 {
-            return bit_in(declared, n);
+            return bit_in(declared, n as usize);
         }
-    } else if file == 4 {
+    } else if file == TEMP {
         if n < 256 {
-            return bit_in(declared, 1024 + n);
+            return bit_in(declared, 1024 + n as usize);
         }
     }
     false
@@ -71,11 +75,11 @@ fn indirect(declared: &[u32], file: u8, index: u16, address: u32) -> Place
 fn register_of(s: Source, bank: &Bank, registers: &[u32]) -> Place
     ensures { λ r. ⌜ r ≡ registerOf (envIn (now (bank .entry)) .declared) (now (registers .entry)) s ⌝ }
 {
-    let component = s.modifier / 2;
+    let component = indirection(s);
     if component == 0 {
         Place::Register(s.index as u32)
     } else {
-        let address = word_at(registers, 1151 + component as usize);
+        let address = word_at(registers, ADDR_FROM as usize - 1 + component as usize);
         indirect(parts::declared(bank), s.file, s.index, address)
     }
 }
@@ -96,7 +100,7 @@ fn pick_in(words: &[u32], first: usize, s: Source) -> [u32; 4]
     let y = words[first + select(s.swizzle, 1) as usize];
     let z = words[first + select(s.swizzle, 2) as usize];
     let w = words[first + select(s.swizzle, 3) as usize];
-    if s.modifier % 2 == 1 {
+    if negates(s) {
         [neg32(x), neg32(y), neg32(z), neg32(w)]
     } else {
         [x, y, z, w]
@@ -135,10 +139,10 @@ fn pick_register(n: u32, s: Source, bank: &Bank, registers: &[u32]) -> [u32; 4]
     let first = 4 * n as usize;
     let file = s.file;
     match file {
-        1 => pick(parts::constants(bank), first, s),
-        2 => pick(parts::inputs(bank), first, s),
-        4 => pick(registers, 128 + first, s),
-        6 => pick(parts::immediates(bank), first, s),
+        CONST => pick(parts::constants(bank), first, s),
+        IN => pick(parts::inputs(bank), first, s),
+        TEMP => pick(registers, TEMP_FROM as usize + first, s),
+        IMM => pick(parts::immediates(bank), first, s),
         _ => [0, 0, 0, 0],
     }
 }
@@ -152,13 +156,6 @@ fn read(s: Source, bank: &Bank, registers: &[u32]) -> [u32; 4]
         Place::Register(n) => pick_register(n, s, bank, registers),
         Place::Nowhere => [0, 0, 0, 0],
     }
-}
-
-// Where the first source of a record stands.
-fn first_source(kind: u8) -> u8
-    ensures { λ r. ⌜ r ≡ firstSource kind ⌝ }
-{
-    if kind < 0x80 { 5 } else { 1 }
 }
 
 // Reads all sources of the instruction of this kind whose record these bytes begin with, before anything is written.

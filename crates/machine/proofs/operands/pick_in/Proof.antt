@@ -12,6 +12,6 @@ pick-in-spec =
     (search needs) (search needs) (search needs) (search needs) (λ c. search (needs, word-there))
     (search needs) (search needs) (search needs) (search needs) (λ c. search (needs, word-there))
     (search needs) (search needs) (search needs) (search needs) (λ c. search (needs, word-there))
-    (search needs) (search needs) (search needs) (search needs)
+    (search needs) (search needs) (search needs) (search needs) (search needs)
     (λ c. search (needs, pick-negated))
     (λ c. search (needs, pick-plain)))

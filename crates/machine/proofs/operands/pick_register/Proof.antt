@@ -9,7 +9,7 @@ pick-register-spec =
     tie.close
     (tie.spec
     (search needs) (search needs) (search needs) (search needs) (search needs) (search needs) (search needs)
-    (search needs) (search needs)
+    (search needs) (search needs) (search needs)
     (λ c. search (needs, register-const))
     (λ c. search (needs, register-in))
     (λ c. search (needs, register-temp))

@@ -8,6 +8,7 @@ pub register-of-spec : {M : Type 1} → statement M
 register-of-spec =
     tie.close
     (tie.spec
-    (search needs) (search needs) (search needs) (search needs) (search needs) (search needs)
+    (search needs) (search needs) (search needs) (search needs) (search needs) (search needs) (search needs)
+    (search needs) (search needs)
     (λ c. search (needs, register-direct))
     (λ c. search (needs, register-indirect)))
