@@ -5,6 +5,7 @@ use mathlib.Core.Bool.{Bool, cond}
 use mathlib.Core.List.{List}
 use lib.Dec.{eqb, ltb}
 use Rattle.format.specs.Files.{lentRegisters}
+use Rattle.format.specs.Refusals.{inputsShort, constantsShort, registersShort, workingShort, memoryLong}
 use Rattle.blocks.specs.Table.{rowWords}
 use Rattle.checker.specs.Findings.{Seen}
 use Rattle.checker.specs.Check.{Outcome, accepted, refused, checkOf}
@@ -19,11 +20,11 @@ workShort s work = ltb work (rowWords * s .instructions)
 -- The number, 0 where none is due.
 unfoldable pub lentRefusal : Seen → Sizes → ℕ
 lentRefusal s lent =
-    cond (ltb (lent .inputs) (4 * s .inputs)) 20
-    (cond (ltb (lent .constants) (4 * s .constants)) 21
-    (cond (ltb (lent .registers) lentRegisters) 22
-    (cond (workShort s (lent .work)) 23
-    (cond (ltb 16384 (lent .memory)) 24 0))))
+    cond (ltb (lent .inputs) (4 * s .inputs)) inputsShort
+    (cond (ltb (lent .constants) (4 * s .constants)) constantsShort
+    (cond (ltb (lent .registers) lentRegisters) registersShort
+    (cond (workShort s (lent .work)) workingShort
+    (cond (ltb 16384 (lent .memory)) memoryLong 0))))
 
 abbrev pub admitted : Outcome → Sizes → Outcome
 admitted (refused number place) lent = refused number place

@@ -5,6 +5,7 @@ use checker::Verdict;
 use checker::examine;
 use checker::program::Program;
 use format::files::REGISTER_WORDS;
+use format::refusals;
 ghost use mathlib.Core.Path.{_≡_};
 ghost use mathlib.Core.List.{[]};
 ghost use Rattle.checker.specs.Check.{checkOf, programSeen, outcome, wordsAfter};
@@ -26,15 +27,15 @@ fn refusal(program: Program, sizes: Sizes) -> u8
     ensures { λ r. ⌜ r ≡ lentRefusal (programSeen program [] []) sizes ⌝ }
 {
     if sizes.inputs < 4 * program.inputs as usize {
-        20
+        refusals::INPUTS_SHORT
     } else if sizes.constants < 4 * program.constants as usize {
-        21
+        refusals::CONSTANTS_SHORT
     } else if sizes.registers < REGISTER_WORDS {
-        22
+        refusals::REGISTERS_SHORT
     } else if sizes.work < ROW_WORDS * program.instructions as usize {
-        23
+        refusals::WORKING_SHORT
     } else if MOST_MEMORY_WORDS < sizes.memory {
-        24
+        refusals::MEMORY_LONG
     } else {
         0
     }

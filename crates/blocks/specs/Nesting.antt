@@ -5,6 +5,7 @@ use mathlib.Core.Bool.{Bool, true, false, cond, not, _&&_, _||_}
 use mathlib.Core.List.{List, [], _∷_}
 use lib.Dec.{eqb, leb}
 use lib.ListN.{length, drop}
+use Rattle.format.specs.Refusals.{nestingBroken, switchRuleBroken, tooDeep}
 use Rattle.blocks.specs.Control.{Op, PLAIN, ELSE, ENDIF, BGNLOOP, ENDLOOP, BRK, CONT, DEFAULT, ENDSWITCH, END, UIF, SWITCH, CASE, is}
 
 -- An open block: a UIF before its ELSE, one after it, a loop, and a SWITCH with the words of its CASEs so far and whether
@@ -133,9 +134,9 @@ pub data Ruling : Type 0 where
 
 abbrev pub rule : Op → ℕ → List Open → Ruling
 rule o x σ =
-    cond (not (nestingRule o σ)) (refused 10)
-    (cond (not (switchRule o x σ)) (refused 11)
-    (cond (opens o && leb mostOpen (length σ)) (refused 12) (goes (openAfter o x σ))))
+    cond (not (nestingRule o σ)) (refused nestingBroken)
+    (cond (not (switchRule o x σ)) (refused switchRuleBroken)
+    (cond (opens o && leb mostOpen (length σ)) (refused tooDeep) (goes (openAfter o x σ))))
 
 abbrev pub passes : Ruling → (List Open → Bool) → Bool
 passes (goes σ) rest = rest σ

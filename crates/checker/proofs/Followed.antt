@@ -17,6 +17,7 @@ use borrow.Author.Tests.{lt-ltb, ltb-true, ltb-false, leb-false, eqb-true, eqb-f
 use Rattle.format.specs.Records.{longest, sizeAt, placeFrom}
 use Rattle.format.specs.Fields.{declarationAt, caseWord}
 use Rattle.format.proofs.Walk.{place-step}
+use Rattle.format.specs.Refusals.{tooLong, byteAfterEnd, lateDeclaration, noEnd}
 use Rattle.blocks.specs.Control.{Op, END, is, opOf}
 use Rattle.blocks.specs.Nesting.{accepts}
 use Rattle.blocks.proofs.Ops.{kind-is}
@@ -91,7 +92,7 @@ module _ (file : List ℕ) where
     found-by h (taken u) q r = record { after = u; inside = h; found = q; rest = r }
     found-by h (due n) q r = not-accepted r
 
-    by : (b : Bool) → ltb at (length file) ≡ b → cond b (onward (recordFinding s file at) file at (λ u. walk k file (at + sizeAt file at) u)) (refused 13 (length file)) ≡ accepted f → Turned k at s f
+    by : (b : Bool) → ltb at (length file) ≡ b → cond b (onward (recordFinding s file at) file at (λ u. walk k file (at + sizeAt file at) u)) (refused noEnd (length file)) ≡ accepted f → Turned k at s f
     by true h r = found-by (ltb-true at (length file) h) (recordFinding s file at) refl r
     by false h r = not-accepted r
 
@@ -134,7 +135,7 @@ module _ (file : List ℕ) where
 
       last : eqb (getD file at 0) 0x89 ≡ true → f ≡ withInstruction s (p .blocks)
       last e = ends-by (ltb (at + 1) (length file)) (rw e at (t .rest)) ∙ p .after where
-        ends-by : (b : Bool) → cond b (refused 2 (at + 1)) (accepted (t .after)) ≡ accepted f → f ≡ t .after
+        ends-by : (b : Bool) → cond b (refused byteAfterEnd (at + 1)) (accepted (t .after)) ≡ accepted f → f ≡ t .after
         ends-by true r = not-accepted r
         ends-by false r = same-accepted (t .after) f r
 
@@ -174,7 +175,7 @@ module _ (file : List ℕ) where
           }
 
   -- After an instruction there are no declarations and immediates.
-  late : {A : Type 0} (n : ℕ) (g : Finding) (u : Seen) → 0 < n → cond (ltb 0 n) (due 5) g ≡ taken u → A
+  late : {A : Type 0} (n : ℕ) (g : Finding) (u : Seen) → 0 < n → cond (ltb 0 n) (due lateDeclaration) g ≡ taken u → A
   late n g u h e = due-not-taken (rw (lt-ltb 0 n h) at e)
 
   later : (k at : ℕ) (s f : Seen) → walk k file at s ≡ accepted f → at ≡ placeFrom file (s .start) (s .instructions) → 0 < s .instructions → Body s f
@@ -294,7 +295,7 @@ module _ (file : List ℕ) where
 pub followed : (file : List ℕ) (f : Seen) → checkOf file ≡ accepted f → (length file ≤ longest) × Followed file f
 unfolding checkOf
 followed file f e = by (ltb longest (length file)) refl e where
-  by : (b : Bool) → ltb longest (length file) ≡ b → cond b (refused 1 0) (walk (length file) file 0 nothing) ≡ accepted f → (length file ≤ longest) × Followed file f
+  by : (b : Bool) → ltb longest (length file) ≡ b → cond b (refused tooLong 0) (walk (length file) file 0 nothing) ≡ accepted f → (length file ≤ longest) × Followed file f
   by true l r = not-accepted r
   by false l r = (
     ltb-false longest (length file) l,

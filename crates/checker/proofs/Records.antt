@@ -12,6 +12,7 @@ use Rattle.format.specs.Kinds.{lengthOf}
 use Rattle.format.specs.Records.{sizeAt}
 use Rattle.format.specs.Fields.{declarationAt}
 use Rattle.format.specs.declared.fields.Declaration.{Declaration}
+use Rattle.format.specs.Refusals.{unknownKind, bodyCut, lateDeclaration, tooMany, fieldRuleBroken, overlapping}
 use Rattle.registers.specs.Rules.{declarationRule}
 use Rattle.registers.specs.Found.{overlaps}
 use Rattle.checker.specs.Findings.{Seen, Finding, taken, due, withDeclaration, declarationFinding, withImmediate, immediateFinding, instructionFinding, recordFinding}
@@ -19,17 +20,17 @@ use Rattle.checker.specs.Findings.{Seen, Finding, taken, due, withDeclar
 module _ (s : Seen) (file : List ℕ) (at : ℕ) where
   -- ---- Declarations
 
-  pub declaration-5 : 0 < s .instructions → due 5 ≡ declarationFinding s file at
+  pub declaration-5 : 0 < s .instructions → due lateDeclaration ≡ declarationFinding s file at
   unfolding declarationFinding
   declaration-5 h = rw (lt-ltb 0 (s .instructions) h)
 
   module _ (first : s .instructions ≤ 0) (d : Declaration) (here : d ≡ declarationAt file (at + 1)) (r : Bool) (rules : r ≡ declarationRule d) where
-    pub declaration-7 : not r ≡ true → due 7 ≡ declarationFinding s file at
+    pub declaration-7 : not r ≡ true → due fieldRuleBroken ≡ declarationFinding s file at
     unfolding declarationFinding
     declaration-7 e = rw (le-ltb 0 (s .instructions) first, ← here, ← rules, e)
 
     module _ (kept : not r ≡ false) (o : Bool) (over : o ≡ overlaps (s .declared) d) where
-      pub declaration-8 : o ≡ true → due 8 ≡ declarationFinding s file at
+      pub declaration-8 : o ≡ true → due overlapping ≡ declarationFinding s file at
       unfolding declarationFinding
       declaration-8 e = rw (le-ltb 0 (s .instructions) first, ← here, ← rules, kept, ← over, e)
 
@@ -39,12 +40,12 @@ module _ (s : Seen) (file : List ℕ) (at : ℕ) where
 
   -- ---- Immediates
 
-  pub immediate-5 : 0 < s .instructions → due 5 ≡ immediateFinding s file at
+  pub immediate-5 : 0 < s .instructions → due lateDeclaration ≡ immediateFinding s file at
   unfolding immediateFinding
   immediate-5 h = rw (lt-ltb 0 (s .instructions) h)
 
   module _ (first : s .instructions ≤ 0) (n : ℕ) (count : length (s .immediates) ≡ 4 * n) where
-    pub immediate-6 : 256 ≤ n → due 6 ≡ immediateFinding s file at
+    pub immediate-6 : 256 ≤ n → due tooMany ≡ immediateFinding s file at
     unfolding immediateFinding
     immediate-6 h = rw (le-ltb 0 (s .instructions) first, le-leb 1024 (length (s .immediates)) (omega arith))
 
@@ -55,12 +56,12 @@ module _ (s : Seen) (file : List ℕ) (at : ℕ) where
   -- ---- Any record
 
   module _ (kind body : ℕ) (here : kind ≡ getD file at 0) (length : body ≡ lengthOf kind) where
-    pub record-3 : body ≡ 255 → due 3 ≡ recordFinding s file at
+    pub record-3 : body ≡ 255 → due unknownKind ≡ recordFinding s file at
     unfolding recordFinding
     record-3 e = rw (← here, ← length, eq-eqb body 255 e)
 
     module _ (known : body ≡ 255 → ⊥) (size : ℕ) (sized : size ≡ sizeAt file at) where
-      pub record-4 : size ≡ 0 → due 4 ≡ recordFinding s file at
+      pub record-4 : size ≡ 0 → due bodyCut ≡ recordFinding s file at
       unfolding recordFinding
       record-4 e = rw (← here, ← length, ne-eqb body 255 known, ← sized, eq-eqb size 0 e)
 

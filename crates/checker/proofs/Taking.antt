@@ -11,6 +11,7 @@ use borrow.Author.Tests.{eq-eqb, ne-eqb, le-leb, lt-leb, leb-false, eqb-false, n
 use Rattle.format.specs.Records.{sizeAt}
 use Rattle.format.specs.Fields.{caseWord}
 use Rattle.format.proofs.Walk.{size-fits}
+use Rattle.format.specs.Refusals.{tooMany, fieldRuleBroken, notDeclared}
 use Rattle.blocks.specs.Control.{opOf}
 use Rattle.blocks.specs.Nesting.{goes, refused, rule}
 use Rattle.registers.specs.Rules.{operandRules}
@@ -129,7 +130,7 @@ module _ (s : State) (kind : ℕ) (words values file : List ℕ) (at : ℕ) (pad
       rw (immediates-counted s words values sound padded, ← here)
       (by (leb 1024 (s .program .instructions)) (not (operandRules kind file at)) (not (operandsFound kind (isIn (s .program .declared)) (4 * s .program .immediates) file at)) _)
     where
-      by : (a b c : Bool) (f : Finding) → cond a (due 6) (cond b (due 7) (cond c (due 9) f))
+      by : (a b c : Bool) (f : Finding) → cond a (due tooMany) (cond b (due fieldRuleBroken) (cond c (due notDeclared) f))
           ≡ cond (eqb (cond a 6 (cond b 7 (cond c 9 0))) 0) f (due (cond a 6 (cond b 7 (cond c 9 0))))
       by true b c f = refl
       by false true c f = refl

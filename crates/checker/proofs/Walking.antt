@@ -11,6 +11,7 @@ use borrow.Author.Tests.{lt-ltb, le-ltb, leb-false, eq-eqb, ne-eqb, eqb-true, eq
 use Rattle.format.specs.Kinds.{lengthOf}
 use Rattle.format.specs.Records.{longest, sizeAt}
 use Rattle.format.specs.Fields.{caseWord}
+use Rattle.format.specs.Refusals.{tooLong, byteAfterEnd, nestingBroken, noEnd}
 use Rattle.blocks.specs.Control.{opOf}
 use Rattle.blocks.specs.Nesting.{Open, Ruling, goes, rule}
 use Rattle.blocks.specs.Nesting as nesting
@@ -92,7 +93,7 @@ end-rule : (x : ℕ) (σ τ : List Open) → rule (opOf 0x89) x σ ≡ goes τ �
 unfolding opOf
 end-rule x [] τ e = cc
 end-rule x (o ∷ σ) τ e =
-    let f : nesting.refused 10 ≡ goes τ = rw (eqb·suc-zero (length σ)) at e in
+    let f : nesting.refused nestingBroken ≡ goes τ = rw (eqb·suc-zero (length σ)) at e in
     let z : _≡_ {A = ℕ} 0 1 = cc in
     absurd (omega arith)
 
@@ -112,7 +113,7 @@ not-on : {A : Type 0} {v : Verdict} → Ended v ≡ On → A
 not-on e = let z : _≡_ {A = ℕ} 0 1 = cc in absurd (omega arith)
 
 module _ (n at end : ℕ) where
-  pub end-follows : at + 1 < end → Refused 2 (at + 1) ≡ endOf n at end
+  pub end-follows : at + 1 < end → Refused byteAfterEnd (at + 1) ≡ endOf n at end
   unfolding endOf
   end-follows h = rw (lt-ltb (at + 1) end h)
 
@@ -123,7 +124,7 @@ module _ (n at end : ℕ) where
   end-tells : Tells (endOf n at end) n
   unfolding endOf
   end-tells = by (ltb (at + 1) end) where
-    by : (b : Bool) → Tells (cond b (Refused 2 (at + 1)) (Accepted n)) n
+    by : (b : Bool) → Tells (cond b (Refused byteAfterEnd (at + 1)) (Accepted n)) n
     by true = tt
     by false = refl
 
@@ -149,13 +150,13 @@ module _ (s : Seen) (file : List ℕ) (at m kind : ℕ) (t : State) (words value
 
     -- At END no block is open.
     ends : eqb m 0 ≡ true → eqb kind 0x89 ≡ true → concluded (endOf (t .program .instructions) at (length file)) (programSeen (t .program) words [])
-        ≡ cond (ltb (at + 1) (length file)) (refused 2 (at + 1)) (accepted (seen t words values))
+        ≡ cond (ltb (at + 1) (length file)) (refused byteAfterEnd (at + 1)) (accepted (seen t words values))
     unfolding seen endOf
     ends z e = by (ltb (at + 1) (length file)) where
       closed : blocksOf (t .blocks) values ≡ []
       closed = end-closed s file at (seen t words values) (is-taken z) (sym here ∙ eqb-true kind 0x89 e)
 
-      by : (b : Bool) → concluded (cond b (Refused 2 (at + 1)) (Accepted (t .program .instructions))) (programSeen (t .program) words []) ≡ cond b (refused 2 (at + 1)) (accepted (seen t words values))
+      by : (b : Bool) → concluded (cond b (Refused byteAfterEnd (at + 1)) (Accepted (t .program .instructions))) (programSeen (t .program) words []) ≡ cond b (refused byteAfterEnd (at + 1)) (accepted (seen t words values))
       by true = refl
       by false = ap (λ (σ : List Open). accepted (programSeen (t .program) words σ)) (sym closed)
 
@@ -187,7 +188,7 @@ pub record Going (file : List ℕ) (at : ℕ) (s : Seen) : Type 0 where
   pub enough : length file ≤ at + left
   pub whole : walk left file at s ≡ checkOf file
 
-pub check-long : (file : List ℕ) → longest < length file → refused 1 0 ≡ checkOf file
+pub check-long : (file : List ℕ) → longest < length file → refused tooLong 0 ≡ checkOf file
 unfolding checkOf
 check-long file h = rw (lt-ltb longest (length file) h)
 
@@ -199,15 +200,15 @@ unfolding checkOf
 check-start file s e h = record { left = length file; enough = omega arith; whole = rw (e, le-ltb longest (length file) h) }
 
 module _ (file : List ℕ) (at : ℕ) (s : Seen) (going : Going file at s) where
-  walk-past : (k : ℕ) → length file ≤ at → walk k file at s ≡ refused 13 (length file)
+  walk-past : (k : ℕ) → length file ≤ at → walk k file at s ≡ refused noEnd (length file)
   unfolding walk
   walk-past zero h = refl
   walk-past (suc k) h = rw (le-ltb at (length file) h)
 
-  walk-end : length file ≤ at → refused 13 (length file) ≡ checkOf file
+  walk-end : length file ≤ at → refused noEnd (length file) ≡ checkOf file
   walk-end h = sym (walk-past (going .left) h) ∙ going .whole
 
-  module _ (v : Verdict) (is : v ≡ Refused 13 (length file)) (h : length file ≤ at) where
+  module _ (v : Verdict) (is : v ≡ Refused noEnd (length file)) (h : length file ≤ at) where
     pub ends-so : (p : Program) (words : List ℕ) → concluded v (programSeen p words []) ≡ checkOf file
     ends-so p words = rw is (walk-end h)
 

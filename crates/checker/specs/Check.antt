@@ -6,6 +6,7 @@ use mathlib.Core.Bool.{cond}
 use lib.Dec.{eqb, ltb}
 use lib.ListN.{length, getD, take, replicate}
 use Rattle.format.specs.Records.{longest, sizeAt}
+use Rattle.format.specs.Refusals.{tooLong, byteAfterEnd, noEnd}
 use Rattle.blocks.specs.Nesting.{Open}
 use Rattle.registers.specs.Sets.{isIn}
 use Rattle.checker.specs.Findings.{Seen, nothing, Finding, taken, due, recordFinding}
@@ -27,18 +28,18 @@ END = 0x89
 abbrev pub onward : Finding → List ℕ → ℕ → (Seen → Outcome) → Outcome
 onward (due number) file at rest = refused number at
 onward (taken s) file at rest =
-    cond (eqb (getD file at 0) END) (cond (ltb (at + 1) (length file)) (refused 2 (at + 1)) (accepted s)) (rest s)
+    cond (eqb (getD file at 0) END) (cond (ltb (at + 1) (length file)) (refused byteAfterEnd (at + 1)) (accepted s)) (rest s)
 
 -- The records from a place on, at most n of them. "13: file ends without END (place: file length)"
 unfoldable pub walk : ℕ → List ℕ → ℕ → Seen → Outcome
-walk zero file at s = refused 13 (length file)
+walk zero file at s = refused noEnd (length file)
 walk (suc n) file at s =
     cond (ltb at (length file)) (onward (recordFinding s file at) file at (λ t. walk n file (at + sizeAt file at) t))
-    (refused 13 (length file))
+    (refused noEnd (length file))
 
 -- "1: file over 65,536 bytes (place 0, before all else)". A file has at most as many records as bytes.
 unfoldable pub checkOf : List ℕ → Outcome
-checkOf file = cond (ltb longest (length file)) (refused 1 0) (walk (length file) file 0 nothing)
+checkOf file = cond (ltb longest (length file)) (refused tooLong 0) (walk (length file) file 0 nothing)
 
 -- ---- What the functions say
 

@@ -11,6 +11,7 @@ use Rattle.format.specs.Kinds.{lengthOf}
 use Rattle.format.specs.Records.{sizeAt}
 use Rattle.format.specs.Fields.{word32, declarationAt, caseWord}
 use Rattle.format.specs.declared.fields.Declaration.{Declaration}
+use Rattle.format.specs.Refusals.{unknownKind, bodyCut, lateDeclaration, tooMany, fieldRuleBroken, overlapping, notDeclared}
 use Rattle.blocks.specs.Control.{opOf}
 use Rattle.blocks.specs.Run.{mostInstructions}
 use Rattle.blocks.specs.Nesting.{Open, Ruling, goes, refused, rule}
@@ -63,9 +64,9 @@ withDeclaration s d next =
 unfoldable pub declarationFinding : Seen → List ℕ → ℕ → Finding
 declarationFinding s file at =
     let d : Declaration = declarationAt file (at + 1) in
-    cond (ltb 0 (s .instructions)) (due 5)
-    (cond (not (declarationRule d)) (due 7)
-    (cond (overlaps (s .declared) d) (due 8)
+    cond (ltb 0 (s .instructions)) (due lateDeclaration)
+    (cond (not (declarationRule d)) (due fieldRuleBroken)
+    (cond (overlaps (s .declared) d) (due overlapping)
     (taken (withDeclaration s d (at + sizeAt file at)))))
 
 -- "immediate: four words", which stand from place p on.
@@ -86,8 +87,8 @@ withImmediate s file at =
 
 unfoldable pub immediateFinding : Seen → List ℕ → ℕ → Finding
 immediateFinding s file at =
-    cond (ltb 0 (s .instructions)) (due 5)
-    (cond (leb (4 * mostImmediates) (length (s .immediates))) (due 6)
+    cond (ltb 0 (s .instructions)) (due lateDeclaration)
+    (cond (leb (4 * mostImmediates) (length (s .immediates))) (due tooMany)
     (taken (withImmediate s file at)))
 
 -- ---- Instructions
@@ -112,9 +113,9 @@ nested s (refused number) = due number
 unfoldable pub instructionFinding : Seen → List ℕ → ℕ → Finding
 instructionFinding s file at =
     let kind : ℕ = getD file at 0 in
-    cond (leb mostInstructions (s .instructions)) (due 6)
-    (cond (not (operandRules kind file at)) (due 7)
-    (cond (not (operandsFound kind (s .declared) (length (s .immediates)) file at)) (due 9)
+    cond (leb mostInstructions (s .instructions)) (due tooMany)
+    (cond (not (operandRules kind file at)) (due fieldRuleBroken)
+    (cond (not (operandsFound kind (s .declared) (length (s .immediates)) file at)) (due notDeclared)
     (nested s (rule (opOf kind) (caseWord (s .immediates) file at) (s .blocks)))))
 
 -- ---- Any record
@@ -122,8 +123,8 @@ instructionFinding s file at =
 -- "3: unknown kind. 4: body runs past the file." Each later number is that of one of the three forms.
 unfoldable pub recordFinding : Seen → List ℕ → ℕ → Finding
 recordFinding s file at =
-    cond (eqb (lengthOf (getD file at 0)) 255) (due 3)
-    (cond (eqb (sizeAt file at) 0) (due 4)
+    cond (eqb (lengthOf (getD file at 0)) 255) (due unknownKind)
+    (cond (eqb (sizeAt file at) 0) (due bodyCut)
     (cond (eqb (getD file at 0) 0x01) (declarationFinding s file at)
     (cond (eqb (getD file at 0) 0x02) (immediateFinding s file at)
     (instructionFinding s file at))))

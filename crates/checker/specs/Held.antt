@@ -7,6 +7,7 @@ use mathlib.Core.Bool.{Bool, true, false, cond, not}
 use lib.Dec.{eqb, leb, ltb}
 use lib.ListN.{length, drop, replicate}
 use Rattle.format.specs.Records.{sizeAt}
+use Rattle.format.specs.Refusals.{byteAfterEnd, tooMany, fieldRuleBroken, notDeclared}
 use Rattle.blocks.specs.Run.{mostInstructions}
 use Rattle.registers.specs.Sets.{isIn}
 use Rattle.registers.specs.Rules.{operandRules}
@@ -38,9 +39,9 @@ findingOf t words values = cond (eqb (t .refusal) 0) (taken (seen (t .state) wor
 -- The lowest of 6, 7 and 9 that applies to an instruction, 0 for none.
 unfoldable pub operandRefusal : Program → ℕ → List ℕ → ℕ → ℕ
 operandRefusal p kind file at =
-    cond (leb mostInstructions (p .instructions)) 6
-    (cond (not (operandRules kind file at)) 7
-    (cond (not (operandsFound kind (isIn (p .declared)) (4 * p .immediates) file at)) 9
+    cond (leb mostInstructions (p .instructions)) tooMany
+    (cond (not (operandRules kind file at)) fieldRuleBroken
+    (cond (not (operandsFound kind (isIn (p .declared)) (4 * p .immediates) file at)) notDeclared
     0))
 
 -- The state after an instruction that the rules of nesting let pass, or their refusal.
@@ -64,7 +65,7 @@ takenOf s n = takenBy (eqb (n .refusal) 0) s n
 
 -- What an END at a place comes to in a file of this length: refusal 2, or an accepted program.
 unfoldable pub endOf : ℕ → ℕ → ℕ → Verdict
-endOf instructions at end = cond (ltb (at + 1) end) (Refused 2 (at + 1)) (Accepted instructions)
+endOf instructions at end = cond (ltb (at + 1) end) (Refused byteAfterEnd (at + 1)) (Accepted instructions)
 
 -- How the walk goes on after a record of this kind at a place, of which this number was found.
 unfoldable pub wayAfter : ℕ → ℕ → ℕ → ℕ → ℕ → Way

@@ -3,6 +3,7 @@ use crate::Checked;
 use crate::Verdict;
 use crate::program;
 use crate::program::Program;
+use format::refusals;
 use nesting::Blocks;
 use nesting::Nested;
 use registers::operands;
@@ -13,6 +14,7 @@ ghost use Prim.Native.Nat.{ℕ, _+_, _*_, _<_, _≤_};
 ghost use lib.ListN.{length, take};
 ghost use Rattle.format.specs.Records.{sizeAt};
 ghost use Rattle.format.specs.Fields.{caseWord};
+ghost use Rattle.format.specs.Refusals.{noEnd};
 ghost use Rattle.blocks.specs.Control.{opOf};
 ghost use Rattle.blocks.specs.Nesting.{rule};
 ghost use Rattle.checker.specs.Findings.{nothing, nested, declarationFinding, immediateFinding, instructionFinding, recordFinding};
@@ -60,21 +62,21 @@ fn declaration(s: State, file: &[u8], at: usize, next: usize) -> Taken
     let p = s.program;
     if 0 < p.instructions {
         return Taken {
-            refusal: 5,
+            refusal: refusals::LATE_DECLARATION,
             state: s,
         };
     }
     let d = format::fields::declaration_at(file, at + 1);
     if !sets::declaration_allowed(d) {
         return Taken {
-            refusal: 7,
+            refusal: refusals::FIELD_RULE_BROKEN,
             state: s,
         };
     }
     let declared = p.declared;
     if sets::overlaps(declared, d) {
         return Taken {
-            refusal: 8,
+            refusal: refusals::OVERLAPPING,
             state: s,
         };
     }
@@ -95,13 +97,13 @@ fn immediate(s: State, file: &[u8], at: usize, next: usize, words: &mut [u32; 10
     let p = s.program;
     if 0 < p.instructions {
         return Taken {
-            refusal: 5,
+            refusal: refusals::LATE_DECLARATION,
             state: s,
         };
     }
     if MOST_IMMEDIATES <= p.immediates {
         return Taken {
-            refusal: 6,
+            refusal: refusals::TOO_MANY,
             state: s,
         };
     }
@@ -119,14 +121,14 @@ fn operand_refusal(p: Program, kind: u8, file: &[u8], at: u32) -> u8
     ensures { λ r. ⌜ r ≡ operandRefusal p kind (now (file .entry)) at ⌝ }
 {
     if MOST_INSTRUCTIONS <= p.instructions {
-        return 6;
+        return refusals::TOO_MANY;
     }
     if !operands::rules_kept(kind, file, at) {
-        return 7;
+        return refusals::FIELD_RULE_BROKEN;
     }
     let declared = p.declared;
     if !operands::operands_found(kind, declared, 4 * p.immediates as usize, file, at) {
-        return 9;
+        return refusals::NOT_DECLARED;
     }
     0
 }
@@ -221,14 +223,14 @@ fn record(
     let kind = format::fields::byte_at(file, at);
     if format::kinds::body_length(kind) == format::kinds::UNKNOWN {
         return Taken {
-            refusal: 3,
+            refusal: refusals::UNKNOWN_KIND,
             state: s,
         };
     }
     let size = format::records::size_at(file, at);
     if size == 0 {
         return Taken {
-            refusal: 4,
+            refusal: refusals::BODY_CUT,
             state: s,
         };
     }
@@ -255,7 +257,7 @@ fn end_verdict(instructions: u32, at: usize, end: usize) -> Verdict
     ensures { λ r. ⌜ r ≡ endOf instructions at end ⌝ }
 {
     if at + 1 < end {
-        return Verdict::Refused(2, at as u32 + 1);
+        return Verdict::Refused(refusals::BYTE_AFTER_END, at as u32 + 1);
     }
     Verdict::Accepted(instructions)
 }
@@ -277,9 +279,9 @@ fn way_after(refusal: u8, kind: u8, instructions: u32, at: usize, end: usize) ->
 // What a file of this length comes to that ends without END.
 fn unended(end: usize) -> Verdict
     requires { ⌜ end ≤ 65536 ⌝ }
-    ensures { λ r. ⌜ r ≡ Refused 13 end ⌝ }
+    ensures { λ r. ⌜ r ≡ Refused noEnd end ⌝ }
 {
-    Verdict::Refused(13, end as u32)
+    Verdict::Refused(refusals::NO_END, end as u32)
 }
 
 // The record at a place, and how the walk goes on after it.
@@ -321,7 +323,7 @@ pub fn walk(
     let end = file.len();
     if format::records::LONGEST < end {
         return Checked {
-            verdict: Verdict::Refused(1, 0),
+            verdict: Verdict::Refused(refusals::TOO_LONG, 0),
             program: program::unseen(),
         };
     }

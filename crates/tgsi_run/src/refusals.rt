@@ -1,27 +1,28 @@
 // What the refusals say, in the words of document 01.
+use format::refusals as numbers;
 
 fn meaning(number: u8) {
     match number {
-        1 => report::text(b"file over 65,536 bytes"),
-        2 => report::text(b"a byte follows END"),
-        3 => report::text(b"unknown kind"),
-        4 => report::text(b"body runs past the file"),
-        5 => report::text(b"declaration or immediate after an instruction"),
-        6 => report::text(b"1,025th instruction or 257th immediate"),
-        7 => report::text(b"a field rule broken"),
-        8 => report::text(b"declaration overlaps an earlier one of its file"),
-        9 => report::text(
+        numbers::TOO_LONG => report::text(b"file over 65,536 bytes"),
+        numbers::BYTE_AFTER_END => report::text(b"a byte follows END"),
+        numbers::UNKNOWN_KIND => report::text(b"unknown kind"),
+        numbers::BODY_CUT => report::text(b"body runs past the file"),
+        numbers::LATE_DECLARATION => report::text(b"declaration or immediate after an instruction"),
+        numbers::TOO_MANY => report::text(b"1,025th instruction or 257th immediate"),
+        numbers::FIELD_RULE_BROKEN => report::text(b"a field rule broken"),
+        numbers::OVERLAPPING => report::text(b"declaration overlaps an earlier one of its file"),
+        numbers::NOT_DECLARED => report::text(
             b"operand not declared, or no such immediate, or memory kind without MEM",
         ),
-        10 => report::text(b"nesting broken"),
-        11 => report::text(b"switch rule broken"),
-        12 => report::text(b"a 17th open block"),
-        13 => report::text(b"file ends without END"),
-        20 => report::text(b"inputs shorter than the program declares"),
-        21 => report::text(b"constants shorter than the program declares"),
-        22 => report::text(b"registers under 1,156 words"),
-        23 => report::text(b"working words under 3 per instruction"),
-        24 => report::text(b"memory over 16,384 words"),
+        numbers::NESTING_BROKEN => report::text(b"nesting broken"),
+        numbers::SWITCH_RULE_BROKEN => report::text(b"switch rule broken"),
+        numbers::TOO_DEEP => report::text(b"a 17th open block"),
+        numbers::NO_END => report::text(b"file ends without END"),
+        numbers::INPUTS_SHORT => report::text(b"inputs shorter than the program declares"),
+        numbers::CONSTANTS_SHORT => report::text(b"constants shorter than the program declares"),
+        numbers::REGISTERS_SHORT => report::text(b"registers under 1,156 words"),
+        numbers::WORKING_SHORT => report::text(b"working words under 3 per instruction"),
+        numbers::MEMORY_LONG => report::text(b"memory over 16,384 words"),
         _ => report::text(b"no such refusal"),
     }
 }
