@@ -2,14 +2,17 @@
 -- file or one of the immediates, and a modifier is at most 9.
 -- Assumes nothing.
 use mathlib.Core.Path.{_≡_}
+use mathlib.Core.Bool.{true, _||_}
 use mathlib.Core.List.{List}
 use Prim.Native.Nat.{ℕ, _*_, _<_, _≤_}
 use native.Mathlib.Omega.{arith}
+use lib.Dec.{eqb}
 use lib.ListN.{length, getD}
-use Rattle.format.specs.Files.{IMM, registersOf}
+use Rattle.format.specs.Files.{CONST, IN, OUT, TEMP, ADDR, IMM, registersOf}
 use Rattle.format.specs.Fields.{indirection}
 use Rattle.format.specs.Kinds.{destinations, sources, formOf}
 use Rattle.format.specs.Records.{placeFrom}
+use Rattle.registers.specs.Rules.{STORE}
 use Rattle.registers.proofs.Named.{destination, source, modifier-most, direct-given}
 use Rattle.registers.proofs.Named as named
 use Rattle.checker.specs.Check.{accepted, checkOf}
@@ -34,7 +37,20 @@ module _ (file : List ℕ) (f : Seen) (ok : checkOf file ≡ accepted f) (n : �
   pub destination-inside : (destinations (formOf kind) ≡ 0 → ⊥) → destination kind file place .index < registersOf (destination kind file place .file)
   destination-inside = named.destination-inside kind file place (f .declared) (length (f .immediates)) (operands .found) (holds .inside)
 
+  -- "Destination OUT or TEMP; UARL only ADDR; STORE only MEM." (01, Register files)
+  pub destination-register : (destinations (formOf kind) ≡ 0 → ⊥) → (kind ≡ STORE → ⊥)
+      → (eqb (destination kind file place .file) OUT || eqb (destination kind file place .file) TEMP || eqb (destination kind file place .file) ADDR) ≡ true
+  destination-register = named.destination-register kind file place (operands .allowed)
+
   module _ (i : ℕ) (b : i < sources (formOf kind)) where
+    -- "Sources CONST, IN, TEMP, IMM."
+    pub source-file : (eqb (source kind file place i .file) CONST || eqb (source kind file place i .file) IN || eqb (source kind file place i .file) TEMP || eqb (source kind file place i .file) IMM) ≡ true
+    source-file = named.source-file kind file place (operands .allowed) i b
+
+    -- "Indirect only for CONST and TEMP."
+    pub indirect-file : (indirection (source kind file place i) ≡ 0 → ⊥) → (eqb (source kind file place i .file) CONST || eqb (source kind file place i .file) TEMP) ≡ true
+    indirect-file = named.indirect-file kind file place (operands .allowed) i b
+
     pub modifier-inside : source kind file place i .modifier ≤ 9
     modifier-inside = modifier-most kind file place (operands .allowed) i b
 

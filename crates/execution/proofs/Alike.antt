@@ -4,21 +4,29 @@
 use mathlib.Core.Path.{_≡_, refl, sym, ap, _∙_, subst}
 use mathlib.Core.Bool.{Bool, true, false, cond, _&&_, _||_}
 use mathlib.Core.List.{List}
-use Prim.Native.Nat.{ℕ, _+_, _-_, _*_, _/_, _<_}
+use Prim.Native.Nat.{ℕ, _+_, _-_, _*_, _<_}
 use native.Mathlib.Omega.{arith}
-use borrow.Author.Tests.{eqb-true, eqb-false}
-use lib.Dec.{eqb}
+use native.Mathlib.Nat.{add-zero}
+use borrow.Author.Tests.{eqb-true, eqb-false, ltb-true}
+use lib.Dec.{eqb, ltb}
 use lib.IntN.{ℤ, pos, negsuc, _+ℤ_}
-use lib.ListN.{take}
-use lib.Seq.{getD-take}
+use lib.ListN.{getD, take, drop}
+use lib.Seq.{getD-drop, getD-take}
 use Rattle.words.specs.Word.{signed}
 use Rattle.format.specs.Files.{CONST, IN, TEMP, IMM, addrFrom, registersOf}
+use Rattle.format.specs.Fields.{word16, sourceAt, indirection}
+use Rattle.format.specs.Kinds.{formOf, sources, sourcePlace}
 use Rattle.format.specs.declared.fields.Source.{Source}
 use Rattle.registers.proofs.Named.{Inside}
-use Rattle.effects.specs.Destinations.{components}
-use Rattle.machine.specs.Operands.{Env, wordIn, envWith, fourFrom, registerWords, ifDeclared, registerOf, taken, takenAt, sourceOf}
+use Rattle.checker.specs.Check.{accepted, checkOf}
+use Rattle.checker.specs.Findings.{Seen}
+use Rattle.checker.proofs.Accepted.{source-inside, indirect-file}
+use Rattle.checker.proofs.Followed.{followed}
+use Rattle.effects.specs.Destinations.{components, zeros}
+use Rattle.machine.specs.Operands.{Env, wordIn, envWith, fourFrom, registerWords, ifDeclared, registerOf, taken, takenAt, sourceOf, kindByte, nthSource, sourcesOf}
 use Rattle.machine.specs.declared.operands.Place.{Place}
 use Rattle.machine.specs.declared.operands.Place.the-variants.{Register, Nowhere}
+use Rattle.execution.specs.Program.{placeOf, envOf}
 use Rattle.execution.specs.Steps.{askedIndirectly, bankEnv}
 
 -- ---- Words
@@ -78,26 +86,26 @@ module _ (declared : ℕ → ℕ → Bool) (immediates inputs constants r : List
 
   module _ (s : Source)
       (inside : Inside declared)
-      (direct : s .modifier / 2 ≡ 0 → (s .file ≡ IMM → ⊥) → s .index < registersOf (s .file))
-      (steered : (s .modifier / 2 ≡ 0 → ⊥) → (eqb (s .file) CONST || eqb (s .file) TEMP) ≡ true)
+      (direct : indirection s ≡ 0 → (s .file ≡ IMM → ⊥) → s .index < registersOf (s .file))
+      (steered : (indirection s ≡ 0 → ⊥) → (eqb (s .file) CONST || eqb (s .file) TEMP) ≡ true)
     where
       abbrev sum : ℤ
-      sum = pos (s .index) +ℤ signed 32 (wordIn r (addrFrom - 1 + s .modifier / 2))
+      sum = pos (s .index) +ℤ signed 32 (wordIn r (addrFrom - 1 + indirection s))
 
       place-same : registerOf (askedIndirectly declared) r s ≡ registerOf declared r s
       unfolding registerOf
-      place-same = by (eqb (s .modifier / 2) 0) refl
+      place-same = by (eqb (indirection s) 0) refl
         where
-          by : (t : Bool) → eqb (s .modifier / 2) 0 ≡ t
+          by : (t : Bool) → eqb (indirection s) 0 ≡ t
               → cond t (Register (s .index)) (ifDeclared (askedIndirectly declared) (s .file) sum) ≡ cond t (Register (s .index)) (ifDeclared declared (s .file) sum)
           by true e = refl
           by false e = declared-same (s .file) sum (steered (eqb-false _ _ e))
 
       place-inside : (n : ℕ) → registerOf declared r s ≡ Register n → (s .file ≡ IMM → ⊥) → n < registersOf (s .file)
       unfolding registerOf
-      place-inside n there other = by (eqb (s .modifier / 2) 0) refl there
+      place-inside n there other = by (eqb (indirection s) 0) refl there
         where
-          by : (t : Bool) → eqb (s .modifier / 2) 0 ≡ t → cond t (Register (s .index)) (ifDeclared declared (s .file) sum) ≡ Register n → n < registersOf (s .file)
+          by : (t : Bool) → eqb (indirection s) 0 ≡ t → cond t (Register (s .index)) (ifDeclared declared (s .file) sum) ≡ Register n → n < registersOf (s .file)
           by true e q =
               let same : s .index ≡ n = cc in
               subst (λ (k : ℕ). k < registersOf (s .file)) same (direct (eqb-true _ _ e) other)
@@ -110,3 +118,47 @@ module _ (declared : ℕ → ℕ → Bool) (immediates inputs constants r : List
           by : (p : Place) → registerOf declared r s ≡ p → takenAt banked r s p ≡ takenAt given r s p
           by (Register n) e = ap (λ (q : List ℕ). taken q s) (words-same (s .file) n (place-inside n e))
           by Nowhere e = refl
+
+-- ---- The sources of a record
+
+source-from : (file : List ℕ) (p q : ℕ) → sourceAt (drop p file) q ≡ sourceAt file (p + q)
+unfolding sourceAt word16
+source-from file p q =
+    let one : p + q + 1 ≡ p + (q + 1) = omega arith in
+    let two : p + q + 1 + 1 ≡ p + (q + 1 + 1) = omega arith in
+    let three : p + q + 3 ≡ p + (q + 3) = omega arith in
+    let four : p + q + 4 ≡ p + (q + 4) = omega arith in
+    rw (two, one, three, four, getD-drop p file q 0, getD-drop p file (q + 1) 0, getD-drop p file (q + 1 + 1) 0, getD-drop p file (q + 3) 0, getD-drop p file (q + 4) 0)
+
+pub kind-from : (file : List ℕ) (p : ℕ) → kindByte (drop p file) ≡ getD file p 0
+kind-from file p = getD-drop p file 0 0 ∙ ap (λ (i : ℕ). getD file i 0) (add-zero p)
+
+-- Instruction n of an accepted program.
+module _ (file : List ℕ) (s : Seen) (ok : checkOf file ≡ accepted s) (n : ℕ) (h : n < s .instructions) (inputs constants r : List ℕ) where
+  abbrev p : ℕ
+  p = placeOf s file n
+
+  abbrev kind : ℕ
+  kind = getD file p 0
+
+  abbrev bytes : List ℕ
+  bytes = drop p file
+
+  abbrev bankOf : Env
+  bankOf = bankEnv (s .declared) (s .immediates) inputs constants
+
+  one-same : (i : ℕ) → nthSource bankOf r bytes i ≡ nthSource (envOf s inputs constants) r bytes i
+  unfolding nthSource
+  one-same i = rw (kind-from file p, source-from file p (sourcePlace kind i)) (by (ltb i (sources (formOf kind))) refl)
+    where
+      by : (t : Bool) → ltb i (sources (formOf kind)) ≡ t
+          → cond t (sourceOf bankOf r (sourceAt file (p + sourcePlace kind i))) zeros ≡ cond t (sourceOf (envOf s inputs constants) r (sourceAt file (p + sourcePlace kind i))) zeros
+      by true e =
+          let b : i < sources (formOf kind) = ltb-true _ _ e in
+          source-same (s .declared) (s .immediates) inputs constants r (sourceAt file (p + sourcePlace kind i)) (followed file s ok .1 .inside)
+          (source-inside file s ok n h i b) (indirect-file file s ok n h i b)
+      by false e = refl
+
+  pub banked-alike : sourcesOf bankOf r bytes ≡ sourcesOf (envOf s inputs constants) r bytes
+  unfolding sourcesOf
+  banked-alike = rw (one-same 0, one-same 1, one-same 2, one-same 3)

@@ -11,16 +11,17 @@ use borrow.Author.Tests.{ltb-true, ltb-false, eqb-true}
 use lib.Dec.{eqb, ltb}
 use lib.ListN.{length, take, replicate, length-replicate, getD-replicate, List·getD-append, List·getD-eq-default}
 use lib.Seq.{getD-append-add}
-use Rattle.words.specs.Word as word
+use Rattle.words.specs.Word.{bitIn}
 use Rattle.registers.specs.declared.sets.Declared.{Declared}
 use Rattle.registers.specs.Sets.{isIn}
 use Rattle.machine.specs.Bank.{envIn}
-use Rattle.machine.specs.Operands.{bitIn, declaredIn, envWith, wordIn}
+use Rattle.machine.specs.Operands.{declaredIn, envWith, wordIn}
 use Rattle.execution.specs.Steps.{askedIndirectly, bankEnv}
 use Rattle.execution.proofs.Copies.{copy-end}
 
 -- Past the words there is no bit.
 no-bit : (l : List ℕ) (i : ℕ) → length l ≤ i / 32 → false ≡ bitIn l i
+unfolding bitIn
 no-bit l i h =
     sym
     (ap (λ w. eqb (w / 2 ^ (i % 32) % 2) 1) (List·getD-eq-default l 0 h)
@@ -29,6 +30,7 @@ no-bit l i h =
 module _ (a b : List ℕ) (la : length a ≡ 32) (lb : length b ≡ 8) (i : ℕ) where
   -- The first list has the bits below 1,024, the second those from there on.
   first-bits : (t : Bool) → ltb i 1024 ≡ t → t && bitIn (a ++ b) i ≡ bitIn a i
+  unfolding bitIn
   first-bits true e =
       let below : i < 1024 = ltb-true i 1024 e in
       ap (λ w. eqb (w / 2 ^ (i % 32) % 2) 1) (List·getD-append a b 0 (i / 32) (omega arith))
@@ -37,6 +39,7 @@ module _ (a b : List ℕ) (la : length a ≡ 32) (lb : length b ≡ 8) (i : ℕ)
       no-bit a i (omega arith)
 
   second-bits : (t : Bool) → ltb i 256 ≡ t → t && bitIn (a ++ b) (1024 + i) ≡ bitIn b i
+  unfolding bitIn
   second-bits true e =
       let word : (1024 + i) / 32 ≡ length a + i / 32 = omega arith in
       let place : (1024 + i) % 32 ≡ i % 32 = omega arith in
@@ -47,7 +50,7 @@ module _ (a b : List ℕ) (la : length a ≡ 32) (lb : length b ≡ 8) (i : ℕ)
 
 module _ (d : Declared) (lc : length (d .consts) ≡ 32) (lt : length (d .temps) ≡ 8) where
   pub asked-is : declaredIn ((d .consts) ++ (d .temps)) ≡ askedIndirectly (isIn d)
-  unfolding declaredIn isIn word.bitIn
+  unfolding declaredIn isIn
   asked-is = fun-ext λ f. fun-ext λ i. on f i (eqb f 1) refl (eqb f 4) refl
     where
       on : (f i : ℕ) (t : Bool) → eqb f 1 ≡ t → (u : Bool) → eqb f 4 ≡ u → declaredIn ((d .consts) ++ (d .temps)) f i ≡ askedIndirectly (isIn d) f i

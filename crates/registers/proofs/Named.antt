@@ -1,21 +1,21 @@
 -- What the operands of an instruction name, where they keep the field rules and are found: a destination and a direct source name a
 -- register within its file, or one of the immediates. Each rule is one part of a conjunction.
 -- Assumes nothing.
-use mathlib.Core.Path.{_≡_, refl, sym, ap}
+use mathlib.Core.Path.{_≡_, refl, sym, ap, _∙_}
 use mathlib.Core.Bool.{Bool, true, false, cond, not, _&&_, _||_}
 use mathlib.Core.List.{List}
 use Prim.Native.Nat.{ℕ, zero, suc, _+_, _*_, _<_, _≤_}
 use native.Mathlib.Omega.{arith}
 use lib.Dec.{eqb, leb}
 use borrow.Author.Tests.{eqb-true, eq-eqb, ne-eqb, leb-true, ltb-true}
-use Rattle.format.specs.Files.{CONST, IN, TEMP, IMM, MEM, registersOf}
+use Rattle.format.specs.Files.{CONST, IN, OUT, TEMP, ADDR, IMM, MEM, registersOf}
 use Rattle.format.specs.Kinds.{destinations, sources, formOf, firstSource, sourcePlace, within}
 use Rattle.format.specs.Fields.{destinationAt, sourceAt, negates, indirection, isIndirect}
 use Rattle.format.specs.declared.fields.Destination.{Destination}
 use Rattle.format.specs.declared.fields.Source.{Source}
 use Rattle.format.specs.declared.fields.Declaration.{Declaration}
 use Rattle.registers.specs.Sets.{Registers, none, withRange}
-use Rattle.registers.specs.Rules.{memoryKind, mayNegate, destinationRule, sourceRule, allSources, allOperands, operandRules, declarationRule, CASE}
+use Rattle.registers.specs.Rules.{memoryKind, mayNegate, destinationFile, maskRule, destinationRule, sourceRule, allSources, allOperands, operandRules, declarationRule, UARL, STORE, CASE}
 use Rattle.registers.specs.Found.{destinationFound, sourceFound, operandsFound}
 use Rattle.registers.proofs.Choices.{never}
 use Rattle.registers.proofs.Files.{rule-last}
@@ -24,10 +24,29 @@ and-both : (a b : Bool) → (a && b) ≡ true → (a ≡ true) × (b ≡ true)
 and-both true b e = (refl, e)
 and-both false b e = never e
 
-second-of : (a b c d e : Bool) → (a && b && c && d && e) ≡ true → b ≡ true
-second-of true true c d e h = refl
-second-of true false c d e h = never h
-second-of false b c d e h = never h
+all-five : (a b c d e : Bool) → (a && b && c && d && e) ≡ true → (a ≡ true) × (b ≡ true) × (c ≡ true) × (d ≡ true) × (e ≡ true)
+all-five true true true true true h = (refl, refl, refl, refl, refl)
+all-five true true true true false h = never h
+all-five true true true false e h = never h
+all-five true true false d e h = never h
+all-five true false c d e h = never h
+all-five false b c d e h = never h
+
+-- A destination of a kind that is not STORE.
+register-file : (kind f : ℕ) (t u : Bool) → eqb kind STORE ≡ false → cond t (eqb f ADDR) (cond (eqb kind STORE) (eqb f MEM) u) ≡ true → u ≡ (eqb f OUT || eqb f TEMP)
+    → (eqb f OUT || eqb f TEMP || eqb f ADDR) ≡ true
+register-file kind f true u other h e = or-last (eqb f OUT) (eqb f TEMP) (eqb f ADDR) h
+  where
+    or-last : (a b c : Bool) → c ≡ true → (a || b || c) ≡ true
+    or-last true b c h = refl
+    or-last false true c h = refl
+    or-last false false c h = h
+register-file kind f false u other h e = or-first (eqb f OUT) (eqb f TEMP) (eqb f ADDR) (sym e ∙ (rw other at h))
+  where
+    or-first : (a b c : Bool) → (a || b) ≡ true → (a || b || c) ≡ true
+    or-first true b c h = refl
+    or-first false true c h = refl
+    or-first false false c h = never h
 
 -- ---- What is declared
 
@@ -90,15 +109,38 @@ module _ (kind : ℕ) (file : List ℕ) (at : ℕ) where
     pub source-keeps : (i : ℕ) → i < sources (formOf kind) → sourceRule kind (source i) ≡ true
     source-keeps = source-asked (destinationRule kind) (sourceRule kind) allowed
 
-    -- "Modifier 0-9."
-    pub modifier-most : (i : ℕ) → i < sources (formOf kind) → source i .modifier ≤ 9
-    unfolding sourceRule
-    modifier-most i h =
-        leb-true (source i .modifier) 9
-        (second-of (eqb (source i .file) CONST || eqb (source i .file) IN || eqb (source i .file) TEMP || eqb (source i .file) IMM)
-        (leb (source i .modifier) 9) (not (negates (source i)) || mayNegate kind)
-        (not (isIndirect (source i)) || (eqb (source i .file) CONST || eqb (source i .file) TEMP))
-        (not (eqb kind CASE) || eqb (source i .file) IMM && eqb (source i .modifier) 0) (source-keeps i h))
+    -- "Destination OUT or TEMP; UARL only ADDR; STORE only MEM."
+    pub destination-register : (destinations (formOf kind) ≡ 0 → ⊥) → (kind ≡ STORE → ⊥)
+        → (eqb (destination .file) OUT || eqb (destination .file) TEMP || eqb (destination .file) ADDR) ≡ true
+    unfolding destinationRule
+    destination-register some other =
+        register-file kind (destination .file) (eqb kind UARL) (eqb (destination .file) OUT || eqb (destination .file) TEMP) (ne-eqb kind STORE other)
+        (and-both (destinationFile kind (destination .file)) (maskRule kind (destination .mask)) (destination-keeps some) .0) refl
+
+    -- Each rule of a source by itself.
+    module _ (i : ℕ) (h : i < sources (formOf kind)) where
+      abbrev s : Source
+      s = source i
+
+      rules : ((eqb (s .file) CONST || eqb (s .file) IN || eqb (s .file) TEMP || eqb (s .file) IMM) ≡ true)
+          × (leb (s .modifier) 9 ≡ true)
+          × ((not (negates s) || mayNegate kind) ≡ true)
+          × ((not (isIndirect s) || (eqb (s .file) CONST || eqb (s .file) TEMP)) ≡ true)
+          × ((not (eqb kind CASE) || eqb (s .file) IMM && eqb (s .modifier) 0) ≡ true)
+      unfolding sourceRule
+      rules = all-five _ _ _ _ _ (source-keeps i h)
+
+      -- "Sources CONST, IN, TEMP, IMM."
+      pub source-file : (eqb (s .file) CONST || eqb (s .file) IN || eqb (s .file) TEMP || eqb (s .file) IMM) ≡ true
+      source-file = rules .0
+
+      -- "Modifier 0-9."
+      pub modifier-most : s .modifier ≤ 9
+      modifier-most = leb-true (s .modifier) 9 (rules .1)
+
+      -- "Indirect only for CONST and TEMP."
+      pub indirect-file : (indirection s ≡ 0 → ⊥) → (eqb (s .file) CONST || eqb (s .file) TEMP) ≡ true
+      indirect-file some = rw (ne-eqb (indirection s) 0 some) at (rules .3)
 
   -- ---- What is named
 
