@@ -78,13 +78,14 @@ module _ (s : Seen) (file : List ℕ) (ok : checkOf file ≡ accepted s) (inputs
       subst (Final budget) (run-by-table byFile (s .instructions) (followed file s ok .1 .most) nested budget from)
       (run-final byFile (rowAt (table (opAt byFile) (nestedLists (opAt byFile) (s .instructions)))) budget budget 0 0 from (omega arith))
 
-  -- The next instruction of a halt is one of the program's.
-  pub halts-inside : (budget : ℕ) (from : State) (m d : ℕ) (t : State) → carriedOut s file inputs constants budget from ≡ halted m d t → m < s .instructions
+  -- A halt is before one of the program's instructions.
+  pub reading-inside : (budget : ℕ) (from : State) → Stays (s .instructions) (λ u. Unit {0}) (carriedOut s file inputs constants budget from)
   unfolding carriedOut
+  reading-inside budget from = reading-stays (s .instructions) (λ u. Unit {0}) byFile budget (λ n u h v. tt) (opFrom file (s .start)) from tt
+
+  pub halts-inside : (budget : ℕ) (from : State) (m d : ℕ) (t : State) → carriedOut s file inputs constants budget from ≡ halted m d t → m < s .instructions
   halts-inside budget from m d t there =
-      let stays : Stays (s .instructions) (λ u. Unit {0}) (halted m d t) =
-      subst (Stays (s .instructions) (λ u. Unit {0})) there
-      (reading-stays (s .instructions) (λ u. Unit {0}) byFile budget (λ n u h v. tt) (opFrom file (s .start)) from tt) in
+      let stays : Stays (s .instructions) (λ u. Unit {0}) (halted m d t) = subst (Stays (s .instructions) (λ u. Unit {0})) there (reading-inside budget from) in
       stays .0
 
   -- ---- By rows that are right

@@ -1,12 +1,13 @@
 -- What the functions answer is what the definitions of the whole run and of preparing say, return by return.
 -- Assumes nothing.
-use mathlib.Core.Path.{_≡_, refl, sym, ap, _∙_}
+use mathlib.Core.Path.{_≡_, refl, sym, ap, _∙_, subst}
 use mathlib.Core.List.{List, []}
-use Prim.Native.Nat.{ℕ, _-_, _*_, _<_, _≤_}
+use Prim.Native.Nat.{ℕ, _-_, _*_, _^_, _<_, _≤_}
 use native.Mathlib.Omega.{arith}
 use borrow.Author.Tests.{lt-ltb, le-ltb, le-leb}
 use lib.ListN.{length, take}
 use Rattle.format.specs.Records.{longest}
+use Rattle.format.specs.Refusals.{workingShort}
 use Rattle.blocks.specs.Run.{mostInstructions}
 use Rattle.blocks.specs.Table.{rowWords}
 use Rattle.table.specs.Prepared.{filled}
@@ -14,25 +15,26 @@ use Rattle.registers.specs.Sets.{isIn}
 use Rattle.checker.specs.declared.Checked.{Checked}
 use Rattle.checker.specs.declared.Verdict.the-variants.{Accepted, Refused}
 use Rattle.checker.specs.declared.program.Program.{Program}
-use Rattle.checker.specs.Check.{accepted, refused, checkOf, programSeen, outcome, concluded, wordsAfter}
+use Rattle.checker.specs.Check.{accepted, refused, follows, breaks, checkOf, programSeen, outcome, concluded, wordsAfter}
 use Rattle.checker.specs.Findings.{Seen}
 use Rattle.checker.proofs.Followed.{followed}
 use Rattle.effects.specs.Destinations.{State}
 use Rattle.effects.specs.Effect.{state}
 use Rattle.machine.specs.Bank.{envIn}
-use Rattle.machine.specs.Operands.{envWith}
+use Rattle.machine.specs.Operands.{Env}
 use Rattle.admission.specs.Admission.{admissionOf}
 use Rattle.admission.proofs.Admitting.{Admitted, admitted-is, lent-enough}
 use Rattle.execution.specs.declared.Report.{Report}
 use Rattle.execution.specs.declared.Stop.{Stop}
-use Rattle.execution.specs.Program.{askedIndirectly, envOf, cleared}
-use Rattle.execution.specs.Steps.{reached, Right, Came, MayRun}
-use Rattle.execution.proofs.Demand.{right-runs, came-out}
+use Rattle.execution.specs.Program.{cleared, carriedOut}
+use Rattle.execution.specs.Steps.{bankEnv, reached, byRows, Right}
+use Rattle.execution.proofs.Demand.{rows-read, halts-inside}
 use Rattle.execution.proofs.Indirect.{padded-words}
 use Rattle.execution.proofs.Rows.{prepared-right}
 use Rattle.runner.specs.declared.Outcome.{Outcome}
-use Rattle.runner.specs.Answers.{Answer, refusal, ready, runAnswer, stopAnswer, stepsOf, Lent, lent, after, prepareAfter}
-use Rattle.runner.specs.Whole.{preparedIn, prepareOf, sizesOf, reported, runAdmitted, runOf, Admits}
+use Rattle.runner.specs.Answers.{Answer, said, runAnswer, stepsOf, Lent, lent, after, prepareAfter}
+use Rattle.runner.specs.Whole.{preparedIn, prepareOf, sizesOf, reported, runAdmitted, runOf}
+use Rattle.runner.specs.Inner.Admits.{Admits, Came, Near, stopAnswer}
 use Rattle.runner.proofs.Laws.{within-budget}
 
 -- The table of a file that the check took is made.
@@ -49,25 +51,25 @@ table-made s file work ok room =
 
 -- ---- Preparing alone
 
-module _ (file : List ℕ) (c : Checked) (words : List ℕ) (said : outcome c words ≡ checkOf file) (work : List ℕ) where
-  pub prepare-refused : (number place : ℕ) → c .verdict ≡ Refused number place → prepareAfter (refusal number place) work ≡ prepareOf file work
+module _ (file : List ℕ) (c : Checked) (words : List ℕ) (found : outcome c words ≡ checkOf file) (work : List ℕ) where
+  pub prepare-refused : (number place : ℕ) → c .verdict ≡ Refused number place → prepareAfter (breaks number place) work ≡ prepareOf file work
   unfolding prepareOf
   prepare-refused number place e =
-      let is : checkOf file ≡ refused number place = sym said ∙ ap (λ v. concluded v (programSeen (c .program) words [])) e in
+      let is : checkOf file ≡ refused number place = sym found ∙ ap (λ v. concluded v (programSeen (c .program) words [])) e in
       rw is
 
   module _ (n : ℕ) (e : c .verdict ≡ Accepted n) where
     is-accepted : checkOf file ≡ accepted (programSeen (c .program) words [])
-    is-accepted = sym said ∙ ap (λ v. concluded v (programSeen (c .program) words [])) e
+    is-accepted = sym found ∙ ap (λ v. concluded v (programSeen (c .program) words [])) e
 
-    pub prepare-short : length work < rowWords * c .program .instructions → prepareAfter (refusal 23 0) work ≡ prepareOf file work
+    pub prepare-short : length work < rowWords * c .program .instructions → prepareAfter (breaks workingShort 0) work ≡ prepareOf file work
     unfolding prepareOf
     prepare-short h = rw (is-accepted, lt-ltb (length work) (rowWords * c .program .instructions) h)
 
     pub prepare-ready : (w : List ℕ)
         → rowWords * c .program .instructions ≤ length work
         → w ≡ filled file (c .program .start) (c .program .instructions) work
-        → prepareAfter (ready (c .program .instructions)) w ≡ prepareOf file work
+        → prepareAfter (follows (c .program .instructions)) w ≡ prepareOf file work
     unfolding prepareOf
     prepare-ready w room w-is =
         let made = table-made (programSeen (c .program) words []) file work is-accepted room in
@@ -83,8 +85,18 @@ reported-is (Stop.Halted report next) w t = refl
 pub answered-ended : (stop : Stop) (report : Report) → stop ≡ Stop.Ended report → runAnswer (Outcome.Ended report) ≡ stopAnswer stop
 answered-ended stop report e = rw e
 
+pub near-fits : (stop : Stop) (report : Report) (next : ℕ) → Near stop → stop ≡ Stop.Halted report next → next < 2 ^ 32
+near-fits stop report next near e =
+    let below : next < mostInstructions = subst Near e near in
+    omega arith
+
 pub answered-halted : (stop : Stop) (report : Report) (next : ℕ) → stop ≡ Stop.Halted report next → runAnswer (Outcome.Halted report next) ≡ stopAnswer stop
 answered-halted stop report next e = rw e
+
+pub came-cleared : (file rows bank registers cl memory : List ℕ) (budget : ℕ) (stop : Stop) (r′ m′ : List ℕ) → cl ≡ cleared registers
+    → reached stop (state r′ m′) ≡ byRows file rows (envIn bank) budget 0 0 (state cl memory)
+    → Came file rows bank registers memory budget stop r′ m′
+came-cleared file rows bank registers cl memory budget stop r′ m′ clear came = record { is = rw clear at came }
 
 module _ (p : Program) (immediates file inputs constants registers work memory : List ℕ)
     (admits : Admits p immediates file inputs constants (lent registers work memory))
@@ -100,31 +112,42 @@ module _ (p : Program) (immediates file inputs constants registers work memory :
 
     -- The bank holds what is read, and the table stands in the words w.
     module _ (bank w : List ℕ)
-        (gathered : envIn bank ≡ envWith (askedIndirectly (isIn (p .declared))) immediates inputs constants)
+        (gathered : envIn bank ≡ bankEnv (isIn (p .declared)) immediates inputs constants)
         (made : w ≡ filled file (p .start) (p .instructions) work)
       where
-        env-is : envIn bank ≡ envOf seen inputs constants
-        env-is = gathered ∙ rw (admits .padded)
-
         w-prepared : w ≡ preparedIn seen file work
         w-prepared = made ∙ table-made seen file work (holds .follows) (fits .1)
 
         right : Right seen file w
         right = rw w-prepared (prepared-right seen file (holds .follows) work (fits .1))
 
-        pub may-run : MayRun file w bank registers memory
-        may-run = right-runs seen file (holds .follows) inputs constants w right bank env-is registers memory (fits .0)
+        module _ (budget : ℕ) (stop : Stop) (r′ m′ : List ℕ) (came : Came file w bank registers memory budget stop r′ m′) where
+            carried : reached stop (state r′ m′) ≡ carriedOut seen file inputs constants budget (state (cleared registers) memory)
+            carried =
+                came .is
+                ∙ ap (λ (e : Env). byRows file w e budget 0 0 (state (cleared registers) memory)) (gathered ∙ rw (admits .padded))
+                ∙ rows-read seen file (holds .follows) inputs constants w right budget (state (cleared registers) memory)
 
-        pub carried-out : (budget : ℕ) (stop : Stop) (r : Outcome) (r′ m′ : List ℕ)
-            → Came file w (envIn bank) budget (state (cleared registers) memory) stop (state r′ m′)
-            → runAnswer r ≡ stopAnswer stop
-            → after (runAnswer r) (lent r′ w m′) ≡ runOf file inputs constants (lent registers work memory) budget
-        unfolding runOf runAdmitted
-        carried-out budget stop r r′ m′ came told =
-            ap (λ (a : Answer). after a (lent r′ w m′)) told
-            ∙ reported-is stop w (state r′ m′)
-            ∙ ap (reported w) (came-out seen file (holds .follows) inputs constants w right bank env-is registers memory budget stop (state r′ m′) came)
-            ∙ rw (admits .is, w-prepared)
+            pub near-stop : Near stop
+            near-stop = by stop refl
+              where
+                by : (x : Stop) → stop ≡ x → Near x
+                by (Stop.Ended report) e = tt
+                by (Stop.Halted report next) e =
+                    omega (
+                      arith,
+                      halts-inside seen file (holds .follows) inputs constants budget (state (cleared registers) memory) next (report .steps) (state r′ m′)
+                          (sym carried ∙ ap (λ (x : Stop). reached x (state r′ m′)) e),
+                      followed file seen (holds .follows) .1 .most,
+                    )
+
+            pub carried-out : (r : Outcome) → runAnswer r ≡ stopAnswer stop → after (runAnswer r) (lent r′ w m′) ≡ runOf file inputs constants (lent registers work memory) budget
+            unfolding runOf runAdmitted
+            carried-out r told =
+                ap (λ (a : Answer). after a (lent r′ w m′)) told
+                ∙ reported-is stop w (state r′ m′)
+                ∙ ap (reported w) carried
+                ∙ rw (admits .is, w-prepared)
 
 -- ---- The run
 
@@ -135,22 +158,22 @@ run-within file inputs constants over left a budget e =
     omega (arith, same, within-budget file inputs constants over budget)
 
 module _ (file inputs constants registers work memory : List ℕ) (c : Checked) (words : List ℕ)
-    (said : outcome c words ≡ admissionOf file (sizesOf inputs constants (lent registers work memory)))
+    (found : outcome c words ≡ admissionOf file (sizesOf inputs constants (lent registers work memory)))
   where
     abbrev over : Lent
     over = lent registers work memory
 
-    pub run-refused : (budget number place : ℕ) → c .verdict ≡ Refused number place → after (refusal number place) over ≡ runOf file inputs constants over budget
+    pub run-refused : (budget number place : ℕ) → c .verdict ≡ Refused number place → after (said (breaks number place)) over ≡ runOf file inputs constants over budget
     unfolding runOf runAdmitted
     run-refused budget number place e =
-        let is : admissionOf file (sizesOf inputs constants over) ≡ refused number place = sym said ∙ ap (λ v. concluded v (programSeen (c .program) words [])) e in
+        let is : admissionOf file (sizesOf inputs constants over) ≡ refused number place = sym found ∙ ap (λ v. concluded v (programSeen (c .program) words [])) e in
         rw is
 
     pub admits-it : (n : ℕ) (before : List ℕ) → c .verdict ≡ Accepted n → words ≡ wordsAfter (checkOf file) before
         → Admits (c .program) words file inputs constants over
     admits-it n before e padded =
         let is : admissionOf file (sizesOf inputs constants over) ≡ accepted (programSeen (c .program) words []) =
-        sym said ∙ ap (λ v. concluded v (programSeen (c .program) words [])) e in
+        sym found ∙ ap (λ v. concluded v (programSeen (c .program) words [])) e in
         record {
           is = is;
           padded =

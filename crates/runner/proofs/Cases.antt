@@ -15,17 +15,17 @@ use Rattle.blocks.specs.Table.{firstLabel, rows, table, wordsOf}
 use Rattle.table.specs.Prepared.{tableWords}
 use Rattle.registers.specs.Found.{sourceFound, operandsFound}
 use Rattle.registers.specs.Rules.{destinationRule, sourceRule, allOperands, declarationRule}
-use Rattle.checker.specs.Check.{walk, checkOf}
+use Rattle.checker.specs.Check.{walk, checkOf, follows, breaks}
 use Rattle.checker.specs.Findings.{withDeclaration, declarationFinding, withImmediate, immediateFinding, withInstruction, instructionFinding, recordFinding}
 use Rattle.results.specs.Arithmetic.{unary, binary, ternary, resultWord, wide, halves, countOr, wideOf}
-use Rattle.effects.specs.Destinations.{components, ifMasked, masked, firstWord, writtenAt}
+use Rattle.effects.specs.Destinations.{components, ifMasked, masked, firstWord}
 use Rattle.effects.specs.Sources.{resultWords}
 use Rattle.effects.specs.Effect.{familyOf}
-use Rattle.machine.specs.Operands.{fourAt, registerWords, registerOf, taken, sourceOf, firstSource, readAt, nthSource, sourcesOf}
+use Rattle.machine.specs.Operands.{registerWords, registerOf, taken, sourceOf, nthSource, sourcesOf}
 use Rattle.machine.specs.Step.{recordEffect}
 use Rattle.admission.specs.Admission.{lentRefusal, admissionOf}
 use Rattle.execution.specs.Program.{cleared, carriedOut}
-use Rattle.runner.specs.Answers.{Answer, refusal, ready, end, halt, lent, Result}
+use Rattle.runner.specs.Answers.{Answer, said, end, halt, unanswered, lent, Result}
 use Rattle.runner.specs.Whole.{runAdmitted, runOf}
 
 -- `01 03 00 00 00 00`, `02 19` and fifteen `00`, `10 03 00 00 01 06 00 00 E4 00`, `89`
@@ -48,8 +48,9 @@ ran file budget = runOf file [] [] (lent (replicate 1156 7) (replicate 24 9) [])
 numbers : Answer → List ℕ
 numbers (end report) = 0 ∷ report .steps ∷ []
 numbers (halt report next) = 1 ∷ report .steps ∷ next ∷ []
-numbers (refusal number place) = 2 ∷ number ∷ place ∷ []
-numbers (ready instructions) = 3 ∷ instructions ∷ []
+numbers (said (breaks number place)) = 2 ∷ number ∷ place ∷ []
+numbers (said (follows instructions)) = 3 ∷ instructions ∷ []
+numbers unanswered = []
 
 -- The answer, and then OUT[0].x and OUT[0].y.
 shown : Result → List ℕ
@@ -100,5 +101,5 @@ cases : instructions ++ runs
     ∷ (1 ∷ 0 ∷ 0 ∷ 0 ∷ 0 ∷ [])
     ∷ (0 ∷ 5 ∷ 0 ∷ 0 ∷ [])
     ∷ []
-unfolding instructions file12 file13 ran numbers shown runs lengthOf word16 word32 destinationAt sourceAt declarationAt caseWord sizeAt next placeFrom opOf listFrom tableWords read past rounds reading firstLabel rows table wordsOf walk checkOf withDeclaration declarationFinding withImmediate immediateFinding sourceFound operandsFound withInstruction instructionFinding recordFinding destinationRule sourceRule allOperands declarationRule components fourAt registerWords registerOf taken sourceOf ifMasked masked firstWord writtenAt unary resultWord resultWords firstSource readAt nthSource sourcesOf familyOf recordEffect lentRefusal admissionOf cleared carriedOut runAdmitted runOf binary ternary wide halves countOr wideOf signed word lsb umsb imsb least greatest outside ubfe ibfe bfi
+unfolding instructions file12 file13 ran numbers shown runs lengthOf word16 word32 destinationAt sourceAt declarationAt caseWord sizeAt next placeFrom opOf listFrom tableWords read past rounds reading firstLabel rows table wordsOf walk checkOf withDeclaration declarationFinding withImmediate immediateFinding sourceFound operandsFound withInstruction instructionFinding recordFinding destinationRule sourceRule allOperands declarationRule components registerWords registerOf taken sourceOf ifMasked masked firstWord unary resultWord resultWords nthSource sourcesOf familyOf recordEffect lentRefusal admissionOf cleared carriedOut runAdmitted runOf binary ternary wide halves countOr wideOf signed word lsb umsb imsb least greatest outside ubfe ibfe bfi
 cases = refl

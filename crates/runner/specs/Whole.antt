@@ -1,24 +1,22 @@
 -- The whole run, and preparing alone: the refusals, and then what the block reading gives (document 01, demands 1 to 3).
 -- Assumes nothing.
-use Prim.Native.Nat.{ℕ, _*_}
-use mathlib.Core.Path.{_≡_}
+use Prim.Native.Nat.{ℕ}
 use mathlib.Core.Bool.{cond}
-use mathlib.Core.List.{List, []}
-use lib.ListN.{length, take}
+use mathlib.Core.List.{List}
+use lib.ListN.{length}
 use lib.Seq.{sets}
+use Rattle.format.specs.Refusals.{workingShort}
 use Rattle.blocks.specs.Reading.{Reading, out, brk, cont, ended, halted}
 use Rattle.table.specs.Prepared.{tableWords}
-use Rattle.checker.specs.declared.program.Program.{Program}
 use Rattle.checker.specs.Findings.{Seen}
-use Rattle.checker.specs.Check.{Outcome, accepted, refused, checkOf, programSeen}
+use Rattle.checker.specs.Check.{Outcome, accepted, refused, checkOf, follows, breaks}
 use Rattle.effects.specs.Destinations.{State}
 use Rattle.effects.specs.Effect.{state}
-use Rattle.machine.specs.Operands.{wordIn}
 use Rattle.admission.specs.declared.Sizes.{Sizes}
 use Rattle.admission.specs.Admission.{workShort, admissionOf}
 use Rattle.execution.specs.Program.{cleared, carriedOut}
 use Rattle.execution.specs.Steps.{report}
-use Rattle.runner.specs.Answers.{refusal, ready, end, halt, Lent, lent, Result, after, Preparation, prepareAfter}
+use Rattle.runner.specs.Answers.{said, end, halt, unanswered, Lent, lent, Result, after, Preparation, prepareAfter}
 
 -- ---- Preparing
 
@@ -27,10 +25,10 @@ abbrev pub preparedIn : Seen → List ℕ → List ℕ → List ℕ
 preparedIn s file work = sets work 0 (tableWords file (s .start) (s .instructions))
 
 abbrev pub prepareAccepted : Outcome → List ℕ → List ℕ → Preparation
-prepareAccepted (refused number place) file work = prepareAfter (refusal number place) work
+prepareAccepted (refused number place) file work = prepareAfter (breaks number place) work
 prepareAccepted (accepted s) file work =
-    cond (workShort s (length work)) (prepareAfter (refusal 23 0) work)
-    (prepareAfter (ready (s .instructions)) (preparedIn s file work))
+    cond (workShort s (length work)) (prepareAfter (breaks workingShort 0) work)
+    (prepareAfter (follows (s .instructions)) (preparedIn s file work))
 
 -- "preparing alone: 23 only"
 unfoldable pub prepareOf : List ℕ → List ℕ → Preparation
@@ -49,18 +47,18 @@ sizesOf inputs constants words =
       memory = length (words .memory);
     }
 
--- What a reading comes to. That of an accepted program ends or halts (`reading-final`): its outermost list has END last, and BRK
--- and CONT stand in a block.
+-- What a reading comes to. No run answers what a list would come to that runs out or stops by BRK or CONT: the outermost list of an
+-- accepted program has END last, and BRK and CONT stand in a block.
 abbrev pub reported : List ℕ → Reading State → Result
 reported work (ended steps s) = after (end (report steps)) (lent (s .registers) work (s .memory))
 reported work (halted next steps s) = after (halt (report steps) next) (lent (s .registers) work (s .memory))
-reported work (out steps s) = after (end (report steps)) (lent (s .registers) work (s .memory))
-reported work (brk steps s) = after (end (report steps)) (lent (s .registers) work (s .memory))
-reported work (cont steps s) = after (end (report steps)) (lent (s .registers) work (s .memory))
+reported work (out steps s) = after unanswered (lent (s .registers) work (s .memory))
+reported work (brk steps s) = after unanswered (lent (s .registers) work (s .memory))
+reported work (cont steps s) = after unanswered (lent (s .registers) work (s .memory))
 
 -- "A run checks, prepares, clears these and no word past them, then carries out." (01, Register files)
 unfoldable pub runAdmitted : Outcome → List ℕ → List ℕ → List ℕ → Lent → ℕ → Result
-runAdmitted (refused number place) file inputs constants words budget = after (refusal number place) words
+runAdmitted (refused number place) file inputs constants words budget = after (said (breaks number place)) words
 runAdmitted (accepted s) file inputs constants words budget =
     reported (preparedIn s file (words .work))
     (carriedOut s file inputs constants budget (state (cleared (words .registers)) (words .memory)))
@@ -69,10 +67,3 @@ runAdmitted (accepted s) file inputs constants words budget =
 unfoldable pub runOf : List ℕ → List ℕ → List ℕ → Lent → ℕ → Result
 runOf file inputs constants words budget =
     runAdmitted (admissionOf file (sizesOf inputs constants words)) file inputs constants words budget
-
--- ---- What the run's parts ask
-
--- The program p, whose immediates are the first of these words and 0 follows them, is admitted over what is lent.
-pub record Admits (p : Program) (immediates file inputs constants : List ℕ) (words : Lent) : Type 0 where
-  pub is : admissionOf file (sizesOf inputs constants words) ≡ accepted (programSeen p immediates [])
-  pub padded : wordIn immediates ≡ wordIn (take (4 * p .immediates) immediates)

@@ -6,13 +6,17 @@ use checker::examine;
 use checker::program::Program;
 use execution::Stop;
 use execution::lent::bank_of;
-use execution::steps::run_rows;
+use execution::lent::clear;
+use execution::steps::carry_out;
+use format::refusals::WORKING_SHORT;
+use machine::bank::Bank;
 use table::fill;
 ghost use mathlib.Core.Path.{_≡_};
 ghost use Prim.Native.Nat.{_≤_};
 ghost use Rattle.table.specs.Prepared.{filled};
-ghost use Rattle.runner.specs.Answers.{prepareAnswer, prepareAfter, runAnswer, stopAnswer, lent, after, stepsOf};
-ghost use Rattle.runner.specs.Whole.{prepareOf, runOf, Admits};
+ghost use Rattle.runner.specs.Answers.{prepareAnswer, prepareAfter, runAnswer, lent, after, stepsOf};
+ghost use Rattle.runner.specs.Whole.{prepareOf, runOf};
+ghost use Rattle.runner.specs.Inner.Admits.{Admits, Came, Near, stopAnswer};
 pub use checker::Verdict;
 pub use checker::check;
 pub use execution::Report;
@@ -61,7 +65,7 @@ pub fn prepare(file: &[u8], work: &mut [u32]) -> Prepared
         Verdict::Refused(number, place) => Prepared::Refused(number, place),
         Verdict::Accepted(_) => {
             if work.len() < ROW_WORDS * program.instructions as usize {
-                return Prepared::Refused(23, 0);
+                return Prepared::Refused(WORKING_SHORT, 0);
             }
             write_table(file, program, work);
             Prepared::Ready(program.instructions)
@@ -71,12 +75,28 @@ pub fn prepare(file: &[u8], work: &mut [u32]) -> Prepared
 
 // How a program that was carried out is answered for.
 fn answered(stop: Stop) -> Outcome
+    requires { ⌜ Near stop ⌝ }
     ensures { λ r. ⌜ runAnswer r ≡ stopAnswer stop ⌝ }
 {
     match stop {
         Stop::Ended(report) => Outcome::Ended(report),
-        Stop::Halted(report, next) => Outcome::Halted(report, next),
+        Stop::Halted(report, next) => Outcome::Halted(report, next as u32),
     }
+}
+
+// Clears the registers and carries out by the rows.
+fn carry_out_cleared(
+    file: &[u8],
+    rows: &[u32],
+    bank: &Bank,
+    registers: &mut [u32],
+    memory: &mut [u32],
+    budget: u32,
+) -> Stop
+    ensures { λ r. ⌜ Came (now (file .entry)) (now (rows .entry)) (now (bank .entry)) (now (registers .entry)) (now (memory .entry)) budget r (now (registers .exit)) (now (memory .exit)) ⌝ }
+{
+    clear(registers);
+    carry_out(file, rows, bank, registers, memory, budget)
 }
 
 // Prepares an admitted program, clears the registers and carries it out.
@@ -97,7 +117,7 @@ fn run_admitted(
     let declared = program.declared;
     let bank = bank_of(declared, immediates, inputs, constants);
     write_table(file, program, work);
-    answered(run_rows(file, work, &bank, registers, memory, budget))
+    answered(carry_out_cleared(file, work, &bank, registers, memory, budget))
 }
 
 // Checks a file, prepares it, clears the registers and carries out its instructions until END or until the budget is spent.
