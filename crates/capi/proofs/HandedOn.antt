@@ -1,13 +1,17 @@
 -- An answer in words follows the library's answer, through whatever the callee and the `match` say of it.
 -- Assumes nothing.
-use Prim.Native.Nat.{ℕ}
-use mathlib.Core.Path.{_≡_, ap}
+use Prim.Native.Nat.{ℕ, _≤_}
+use mathlib.Core.Path.{_≡_, sym, ap, subst}
 use mathlib.Core.List.{List}
+use native.Mathlib.Omega.{arith}
+use Rattle.checker.specs.Check.{Told, follows, breaks}
 use Rattle.format.specs.declared.records.Bounds.{Bounds}
-use Rattle.runner.specs.Answers.{Lent, Result, Preparation, after, prepareAfter}
+use Rattle.runner.specs.Answers.{said, end, halt, unanswered, Lent, Result, Preparation, after, prepareAfter}
 use Rattle.runner.specs.Answers.{Answer as Library}
+use Rattle.runner.specs.Whole.{runOf}
+use Rattle.runner.proofs.Laws.{Answered, run-answers}
 use Rattle.capi.specs.declared.Answer.{Answer}
-use Rattle.capi.specs.Answers.{answerOf, afterPreparing, preparationInWords, afterRun, resultInWords, partOf}
+use Rattle.capi.specs.Answers.{toldWords, answerOf, stepsIn, afterPreparing, preparationInWords, afterRun, resultInWords, partOf}
 
 -- In an arm of a `match`: what is matched is the arm's case.
 pub in-arm : {E : Type 0} (inWords : E → Answer) (o arm : E) (r : Answer) → o ≡ arm → r ≡ inWords arm → r ≡ inWords o
@@ -15,17 +19,30 @@ in-arm inWords o arm r e h = rw e h
 
 -- After a call: what the callee answered is what its definition says.
 pub by-callee :
-    {E : Type 0} (inWords : E → Answer) (told said : E) (r : Answer) → told ≡ said → r ≡ inWords told → r ≡ inWords said
-by-callee inWords told said r e h = rw (← e) h
+    {E : Type 0} (inWords : E → Answer) (told meant : E) (r : Answer) → told ≡ meant → r ≡ inWords told → r ≡ inWords meant
+by-callee inWords told meant r e h = rw (← e) h
 
 pub prepared-is :
-    (a : Library) (r : Answer) (work : List ℕ) (x : Preparation) → r ≡ answerOf a → prepareAfter a work ≡ x
+    (a : Told) (r : Answer) (work : List ℕ) (x : Preparation) → r ≡ toldWords a → prepareAfter a work ≡ x
     → afterPreparing r work ≡ preparationInWords x
 prepared-is a r work x h e = rw h (ap preparationInWords e)
 
 pub ran-is :
     (a : Library) (r : Answer) (words : Lent) (x : Result) → r ≡ answerOf a → after a words ≡ x → afterRun r words ≡ resultInWords x
 ran-is a r words x h e = rw h (ap resultInWords e)
+
+within-words : (budget : ℕ) (a : Library) → Answered budget a → stepsIn (answerOf a) ≤ budget
+within-words budget (said (follows instructions)) h = absurd h
+within-words budget (said (breaks number place)) h = omega arith
+within-words budget (end report) h = h
+within-words budget (halt report next) h = h .0
+within-words budget unanswered h = absurd h
+
+-- "never above budget" (01, Forms for specific places)
+pub ran-within : (file inputs constants : List ℕ) (over left : Lent) (budget : ℕ) (a : Library) (r : Answer)
+    → r ≡ answerOf a → after a left ≡ runOf file inputs constants over budget → stepsIn r ≤ budget
+ran-within file inputs constants over left budget a r h e =
+    rw h (within-words budget a (subst (Answered budget) (sym (ap (λ (x : Result). x .answer) e)) (run-answers file inputs constants over budget)))
 
 pub part-is : (b x : Bounds) → b ≡ x → partOf b ≡ partOf x
 part-is b x e = ap partOf e

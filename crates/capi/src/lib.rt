@@ -4,11 +4,12 @@ use runner::Outcome;
 use runner::Prepared;
 use runner::Verdict;
 ghost use mathlib.Core.Path.{_≡_};
+ghost use Prim.Native.Nat.{_≤_};
 ghost use Rattle.format.specs.Records.{boundsOf};
 ghost use Rattle.checker.specs.Check.{checkOf, told, toldOf};
 ghost use Rattle.runner.specs.Answers.{prepareAnswer, runAnswer, lent};
 ghost use Rattle.runner.specs.Whole.{runOf, prepareOf};
-ghost use Rattle.capi.specs.Answers.{words, answerOf, checkAnswer, afterPreparing, afterRun, preparationInWords, resultInWords, partOf};
+ghost use Rattle.capi.specs.Answers.{words, toldWords, answerOf, stepsIn, afterPreparing, afterRun, preparationInWords, resultInWords, partOf};
 
 // Status 0: done, with the number of instructions (check and prepare) or of steps (run) first. 1: halted, with the steps first
 // and the next instruction's number second. 2: refused, with the refusal's number first and its place second. Words that a
@@ -54,7 +55,7 @@ fn refused(number: u8, place: u32) -> Answer
 }
 
 fn checked(verdict: Verdict) -> Answer
-    ensures { λ r. ⌜ r ≡ answerOf (checkAnswer (told verdict)) ⌝ }
+    ensures { λ r. ⌜ r ≡ toldWords (told verdict) ⌝ }
 {
     match verdict {
         Verdict::Accepted(instructions) => done(instructions),
@@ -63,7 +64,7 @@ fn checked(verdict: Verdict) -> Answer
 }
 
 fn prepared(outcome: Prepared) -> Answer
-    ensures { λ r. ⌜ r ≡ answerOf (prepareAnswer outcome) ⌝ }
+    ensures { λ r. ⌜ r ≡ toldWords (prepareAnswer outcome) ⌝ }
 {
     match outcome {
         Prepared::Ready(instructions) => done(instructions),
@@ -88,7 +89,7 @@ fn ran(outcome: Outcome) -> Answer
 // Whether a file follows the rules.
 #[no_mangle]
 pub extern "C" fn ropebonnet_check(file: &[u8]) -> Answer
-    ensures { λ r. ⌜ r ≡ answerOf (checkAnswer (toldOf (checkOf (now (file .entry))))) ⌝ }
+    ensures { λ r. ⌜ r ≡ toldWords (toldOf (checkOf (now (file .entry)))) ⌝ }
 {
     checked(runner::check(file))
 }
@@ -112,7 +113,8 @@ pub extern "C" fn ropebonnet_run(
     memory: &mut [u32],
     budget: u32,
 ) -> Answer
-    ensures { λ r. ⌜ afterRun r (lent (now (registers .exit)) (now (work .exit)) (now (memory .exit))) ≡ resultInWords (runOf (now (file .entry)) (now (inputs .entry)) (now (constants .entry)) (lent (now (registers .entry)) (now (work .entry)) (now (memory .entry))) budget) ⌝ }
+    ensures whole { λ r. ⌜ afterRun r (lent (now (registers .exit)) (now (work .exit)) (now (memory .exit))) ≡ resultInWords (runOf (now (file .entry)) (now (inputs .entry)) (now (constants .entry)) (lent (now (registers .entry)) (now (work .entry)) (now (memory .entry))) budget) ⌝ }
+    ensures within { λ r. ⌜ stepsIn r ≤ budget ⌝ }
 {
     ran(runner::run(file, inputs, constants, registers, work, memory, budget))
 }

@@ -2,7 +2,7 @@
 -- Assumes nothing.
 use borrow.Author.Needs.{needs}
 use Rattle.checker.specs.Check.{told}
-use Rattle.capi.specs.Answers.{answerOf, checkAnswer}
+use Rattle.capi.specs.Answers.{toldWords}
 use Rattle.capi.proofs.HandedOn.{in-arm}
 use Rattle.capi.proofs.checked.Statement.{statement}
 use Rattle.capi.proofs.checked.Tie as tie
@@ -15,5 +15,5 @@ checked-spec =
     (search needs)
     (search needs)
     (search needs)
-    (λ c. search (needs, in-arm (λ v. answerOf (checkAnswer (told v)))))
-    (λ c. search (needs, in-arm (λ v. answerOf (checkAnswer (told v))))))
+    (λ c. search (needs, in-arm (λ v. toldWords (told v))))
+    (λ c. search (needs, in-arm (λ v. toldWords (told v)))))

@@ -2,7 +2,7 @@
 -- Assumes nothing.
 use borrow.Author.Needs.{needs}
 use Rattle.runner.specs.Answers.{prepareAnswer}
-use Rattle.capi.specs.Answers.{answerOf}
+use Rattle.capi.specs.Answers.{toldWords}
 use Rattle.capi.proofs.HandedOn.{in-arm}
 use Rattle.capi.proofs.prepared.Statement.{statement}
 use Rattle.capi.proofs.prepared.Tie as tie
@@ -15,5 +15,5 @@ prepared-spec =
     (search needs)
     (search needs)
     (search needs)
-    (λ c. search (needs, in-arm (λ p. answerOf (prepareAnswer p))))
-    (λ c. search (needs, in-arm (λ p. answerOf (prepareAnswer p)))))
+    (λ c. search (needs, in-arm (λ p. toldWords (prepareAnswer p))))
+    (λ c. search (needs, in-arm (λ p. toldWords (prepareAnswer p)))))

@@ -1,7 +1,7 @@
 -- The verdict is what the definition says, in words.
 -- Assumes nothing.
 use borrow.Author.Needs.{needs}
-use Rattle.capi.specs.Answers.{answerOf, checkAnswer}
+use Rattle.capi.specs.Answers.{toldWords}
 use Rattle.capi.proofs.HandedOn.{by-callee}
 use Rattle.capi.proofs.ropebonnet_check.Statement.{statement}
 use Rattle.capi.proofs.ropebonnet_check.Tie as tie
@@ -12,4 +12,4 @@ ropebonnet-check-spec =
     (tie.spec
     (search needs)
     (search needs)
-    (λ c. search (needs, by-callee (λ t. answerOf (checkAnswer t)))))
+    (λ c. search (needs, by-callee toldWords)))
