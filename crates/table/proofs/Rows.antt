@@ -201,17 +201,16 @@ module _ (kinds places : List ℕ) (t : Targets) where
         (rows-then place n (suc n) (loopRow ∷ []) (rows op (inLoop n list) list) w w1 w2 wrote (omega arith)
         (rw (g, fin, add-one n) at inside))
 
-    pub open-switch : (u : Targets)
-        → u ≡ record { brk = e; cont = t .cont; after = 0 }
-        → getD kinds n 0 ≡ 0x91
-        → (l : ℕ)
+    pub open-switch : (l : ℕ)
         → l ≡ firstLabel (opIn kinds) (listIn kinds (n + 1))
         → w1 ≡ sets w (rowWords * n) (getD places n 0 ∷ e ∷ l ∷ [])
-        → (w2 : List ℕ)
+        → (u : Targets) (w2 : List ℕ)
         → w2 ≡ sets w1 (rowWords * (n + 1)) (wordsIn kinds places u (n + 1) (listIn kinds (n + 1)))
+        → getD kinds n 0 ≡ 0x91
+        → u ≡ record { brk = e; cont = t .cont; after = 0 }
         → w2 ≡ sets w (rowWords * n) (wordsIn kinds places t n (blockIn kinds n))
     unfolding wordsIn wordsOf rows list
-    open-switch u g k l label wrote w2 inside =
+    open-switch l label wrote u w2 inside k g =
         let fin : e ≡ suc n + size list = ends ∙ rw (at-switch kinds n h k) (omega arith) in
         rw (at-switch kinds n h k, append-nil (rows op (inSwitch n list t) list))
         (rows-then place n (suc n) (switchRow op n list ∷ []) (rows op (inSwitch n list t) list) w w1 w2
