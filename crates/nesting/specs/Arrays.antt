@@ -10,6 +10,7 @@ use lib.Dec.{eqb, leb}
 use lib.ListN.{getD, set, replicate}
 use Rattle.format.specs.Kinds.{within}
 use Rattle.blocks.specs.Control.{Op, PLAIN, ELSE, ENDIF, BGNLOOP, ENDLOOP, BRK, CONT, DEFAULT, ENDSWITCH, END, UIF, SWITCH, CASE, opOf}
+use Rattle.blocks.specs.Run.{mostInstructions}
 use Rattle.blocks.specs.Nesting.{opens, mostOpen}
 use Rattle.nesting.specs.Search.{placeIn, isHere, hung}
 use Rattle.nesting.specs.declared.Blocks.{Blocks}
@@ -125,16 +126,13 @@ topSet codes (suc n) code = set codes n code
 abbrev pub recoded : ℕ → Blocks → Blocks
 recoded code b = record { codes = topSet (b .codes) (b .depth) code; starts = b .starts; depth = b .depth; held = b .held }
 
--- One word more for the innermost block; where there are 1,024, as many as there are instructions, all stays.
-abbrev pub mostWords : ℕ
-mostWords = 1024
-
+-- One word more for the innermost block; where there are as many as a program has instructions, all stays.
 abbrev pub more : Blocks → Blocks
 more b = record { codes = b .codes; starts = b .starts; depth = b .depth; held = b .held + 1 }
 
 abbrev pub labelled : ℕ → Blocks → List ℕ → List ℕ → Left
 labelled x b values links =
-    cond (leb mostWords (b .held)) (leaving 0 b values links)
+    cond (leb mostInstructions (b .held)) (leaving 0 b values links)
     (leaving 0 (more b) (set values (b .held) x) (hung links (placeIn values links (innermostStart b) (b .held) x) (b .held)))
 
 -- After an instruction that no rule refuses.
@@ -153,6 +151,8 @@ leftAfter BRK x b values links = leaving 0 b values links
 leftAfter CONT x b values links = leaving 0 b values links
 leftAfter END x b values links = leaving 0 b values links
 
+-- A refused instruction leaves all as it was.
 unfoldable pub nestOf : Blocks → List ℕ → List ℕ → ℕ → ℕ → Left
 nestOf b values links kind x =
-    cond (eqb (nestingRefusal b values links kind x) 0) (leftAfter (opOf kind) x b values links) (leaving (nestingRefusal b values links kind x) b values links)
+    let refusal = nestingRefusal b values links kind x in
+    cond (eqb refusal 0) (leftAfter (opOf kind) x b values links) (leaving refusal b values links)
