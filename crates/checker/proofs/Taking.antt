@@ -1,9 +1,9 @@
 -- The state after a record: what the code's answer says, and that the numbers it keeps stay within their bounds.
 -- Assumes nothing.
-use mathlib.Core.Path.{_≡_, refl, sym, ap, _∙_, subst}
+use mathlib.Core.Path.{_≡_, refl, sym, ap, _∙_}
 use mathlib.Core.Bool.{Bool, true, false, cond, not}
 use mathlib.Core.List.{List, []}
-use Prim.Native.Nat.{ℕ, _+_, _*_, _<_, _≤_}
+use Prim.Native.Nat.{ℕ, _+_, _*_, _^_, _<_, _≤_}
 use native.Mathlib.Omega.{arith}
 use lib.Dec.{eqb, leb}
 use lib.ListN.{length, getD, take}
@@ -19,7 +19,9 @@ use Rattle.registers.specs.Sets.{isIn}
 use Rattle.registers.specs.Found.{operandsFound}
 use Rattle.checker.specs.Findings.{nothing, Finding, due, withInstruction, nested, instructionFinding}
 use Rattle.checker.specs.Check.{programSeen}
-use Rattle.nesting.specs.Held.{Stacked, blocksOf, rulingOf, SoundBlocks, Treed, Trees}
+use Rattle.nesting.specs.Arrays.{noneOpen, nestOf}
+use Rattle.nesting.specs.Inner.Held.{blocksOf, Trees}
+use Rattle.nesting.proofs.Rules.{nest-says, nest-sound, nest-held, nest-trees, nest-stays, none-blocks, none-sound, none-held}
 use Rattle.checker.specs.Held.{seen, findingOf, operandRefusal, instructed, takenBy, takenOf, Padded, Sound}
 use Rattle.nesting.specs.declared.Blocks.{Blocks}
 use Rattle.nesting.specs.declared.Nested.{Nested}
@@ -56,22 +58,13 @@ sound-immediate s q h e f l =
     record { instructions = omega arith; immediates = omega arith; held = omega arith; blocks = h .blocks }
 
 -- Nothing is open, and nothing has been counted.
-module _ (p : Program) (b : Blocks) (depth : b .depth ≡ 0) where
+module _ (p : Program) (b : Blocks) (none : b ≡ noneOpen) where
   pub nothing-seen : (words values : List ℕ) → programSeen p words [] ≡ nothing → programSeen p words (blocksOf b values) ≡ nothing
-  nothing-seen words values e = rw depth e
+  nothing-seen words values e = rw (none-blocks b none values) e
 
-  pub nothing-treed : (values links : List ℕ) → length values ≡ 1024 → length links ≡ 2048 → Trees b values links
-  nothing-treed values links v l =
-      record { room = v; slots = l; each = subst (λ (k : ℕ). Treed values links (b .starts) k (b .held)) (sym depth) tt }
-
-  pub nothing-counted : b .held ≡ 0 → p .immediates ≡ 0 → p .instructions ≡ 0 → Sound (record { program = p; blocks = b })
-  nothing-counted h i n =
-      record {
-        instructions = omega arith;
-        immediates = omega arith;
-        held = omega arith;
-        blocks = record { depth = omega arith; stacked = subst (λ (k : ℕ). Stacked (b .codes) (b .starts) k (b .held)) (sym depth) tt };
-      }
+  pub nothing-counted : p .immediates ≡ 0 → p .instructions ≡ 0 → Sound (record { program = p; blocks = b })
+  nothing-counted i n =
+      record { instructions = omega arith; immediates = omega arith; held = omega (arith, none-held b none); blocks = none-sound b none }
 
 -- The trees of blocks that stay as they were.
 pub trees-same : (a b : Blocks) (values links : List ℕ) → a ≡ b → Trees b values links → Trees a values links
@@ -159,27 +152,42 @@ module _ (s : State) (n : Nested) where
       by true = refl
       by false = refl
 
-    pub nested-trees : (values links : List ℕ) → Trees (n .blocks) values links → ((n .refusal ≡ 0 → ⊥) → n .blocks ≡ s .blocks) → Trees (t .state .blocks) values links
-    nested-trees values links h same = rw is (by (eqb (n .refusal) 0) refl) where
-      by : (b : Bool) → eqb (n .refusal) 0 ≡ b → Trees (takenBy b s n .state .blocks) values links
-      by true e = h
-      by false e = rw (same (eqb-false (n .refusal) 0 e)) at h
+    -- The arrays stand as they should, and `nest` does what `rule` says.
+    module _ (values links values′ links′ : List ℕ) (kind x : ℕ) (nests : record { nested = n; values = values′; links = links′ } ≡ nestOf (s .blocks) values links kind x)
+        (sound : Sound s) (few : s .program .instructions < 1024) (trees : Trees (s .blocks) values links) (small : x < 2 ^ 32)
+      where
+        room : s .blocks .held < 1024
+        room = omega (arith, sound .held)
 
-    pub nested-sound : Sound s → SoundBlocks (n .blocks) → n .blocks .held ≤ s .blocks .held + 1 → s .program .instructions < 1024 → Sound (t .state)
-    nested-sound h b l f = rw is (by (eqb (n .refusal) 0)) where
-      by : (b : Bool) → Sound (takenBy b s n .state)
-      by true =
-          let c = h .held in
-          record { instructions = omega arith; immediates = h .immediates; held = omega arith; blocks = b }
-      by false = h
+        pub nested-trees : Trees (t .state .blocks) values′ links′
+        nested-trees = rw is (by (eqb (n .refusal) 0) refl) where
+          h : Trees (n .blocks) values′ links′
+          h = nest-trees (s .blocks) values links kind x (sound .blocks) room trees small n values′ links′ nests
 
-    pub nested-says : (words values after : List ℕ) (kind x : ℕ) → rulingOf n after ≡ rule (opOf kind) x (blocksOf (s .blocks) values)
-        → findingOf t words after ≡ nested (seen s words values) (rule (opOf kind) x (blocksOf (s .blocks) values))
-    unfolding withInstruction seen
-    nested-says words values after kind x says = rw is (by (eqb (n .refusal) 0) refl ∙ ap (nested (seen s words values)) says) where
-      by : (b : Bool) → eqb (n .refusal) 0 ≡ b → findingOf (takenBy b s n) words after ≡ nested (seen s words values) (cond b (goes (blocksOf (n .blocks) after)) (refused (n .refusal)))
-      by true e = refl
-      by false e = rw e refl
+          by : (b : Bool) → eqb (n .refusal) 0 ≡ b → Trees (takenBy b s n .state .blocks) values′ links′
+          by true e = h
+          by false e = rw (nest-stays (s .blocks) values links kind x (sound .blocks) room trees small n values′ links′ nests (eqb-false (n .refusal) 0 e)) at h
+
+        pub nested-sound : Sound (t .state)
+        nested-sound = rw is (by (eqb (n .refusal) 0)) where
+          by : (b : Bool) → Sound (takenBy b s n .state)
+          by true =
+              let c = sound .held in
+              record {
+                instructions = omega arith;
+                immediates = sound .immediates;
+                held = omega (arith, nest-held (s .blocks) values links kind x (sound .blocks) room trees small n values′ links′ nests);
+                blocks = nest-sound (s .blocks) values links kind x (sound .blocks) room trees small n values′ links′ nests;
+              }
+          by false = sound
+
+        pub nested-says : (words : List ℕ) → findingOf t words values′ ≡ nested (seen s words values) (rule (opOf kind) x (blocksOf (s .blocks) values))
+        unfolding withInstruction seen
+        nested-says words =
+            rw is (by (eqb (n .refusal) 0) refl ∙ ap (nested (seen s words values)) (nest-says (s .blocks) values links kind x (sound .blocks) room trees small n values′ links′ nests)) where
+              by : (b : Bool) → eqb (n .refusal) 0 ≡ b → findingOf (takenBy b s n) words values′ ≡ nested (seen s words values) (cond b (goes (blocksOf (n .blocks) values′)) (refused (n .refusal)))
+              by true e = refl
+              by false e = rw e refl
 
 -- The rules of nesting come last.
 pub nested-found : (s : State) (t : Taken) (words values after file : List ℕ) (at kind x m : ℕ)

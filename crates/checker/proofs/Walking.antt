@@ -19,7 +19,7 @@ use Rattle.registers.specs.Rules.{operandRules}
 use Rattle.registers.specs.Found.{operandsFound}
 use Rattle.checker.specs.Findings.{Seen, nothing, Finding, taken, due, nested, withInstruction, declarationFinding, immediateFinding, instructionFinding, recordFinding}
 use Rattle.checker.specs.Check.{Outcome, accepted, refused, onward, walk, checkOf, breaks, told, toldOf, programSeen, concluded, outcome, wordsAfter}
-use Rattle.nesting.specs.Held.{blocksOf}
+use Rattle.nesting.specs.Inner.Held.{blocksOf}
 use Rattle.checker.specs.Held.{Padded, seen, endOf, wayAfter, Tells, Turned}
 use Rattle.checker.specs.declared.Checked.{Checked}
 use Rattle.checker.specs.declared.Verdict.{Verdict}

@@ -16,7 +16,7 @@ use Rattle.checker.specs.Findings.{Seen, Finding, taken, due, mostImmedi
 use Rattle.checker.specs.Check.{Outcome, END, onward, programSeen, concluded}
 use Rattle.checker.specs.declared.Verdict.{Verdict}
 use Rattle.checker.specs.declared.Verdict.the-variants.{Accepted, Refused}
-use Rattle.nesting.specs.Held.{blocksOf, SoundBlocks}
+use Rattle.nesting.specs.Inner.Held.{blocksOf, SoundBlocks}
 use Rattle.nesting.specs.declared.Nested.{Nested}
 use Rattle.checker.specs.declared.program.Program.{Program}
 use Rattle.checker.specs.declared.walk.State.{State}

@@ -20,7 +20,7 @@ ghost use Rattle.blocks.specs.Nesting.{rule};
 ghost use Rattle.checker.specs.Findings.{nothing, nested, declarationFinding, immediateFinding, instructionFinding, recordFinding};
 ghost use Rattle.checker.specs.Check.{checkOf, told, toldOf, outcome};
 ghost use Rattle.checker.specs.declared.Verdict.the-variants.{Refused};
-ghost use Rattle.nesting.specs.Held.{blocksOf, Trees};
+ghost use Rattle.nesting.specs.Inner.Held.{blocksOf, Trees};
 ghost use Rattle.checker.specs.Held.{seen, findingOf, operandRefusal, takenOf, endOf, wayAfter, Turned, Sound, Padded};
 
 // What the checker knows after some records.

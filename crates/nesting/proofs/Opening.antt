@@ -1,36 +1,33 @@
--- Blocks that are opened, closed, recoded and labelled in the checker's arrays: a write at or above the top leaves what lies
--- below it as it was.
+-- Blocks that are opened, closed, recoded and labelled in arrays: a write at or above the top leaves what lies below it as it was.
 -- Assumes nothing.
-use mathlib.Core.Path.{_≡_, refl, sym, ap, _∙_, subst}
-use mathlib.Core.Bool.{Bool, true, false, not, _&&_}
+use mathlib.Core.Path.{_≡_, refl, ap, _∙_}
+use mathlib.Core.Bool.{Bool, true}
 use mathlib.Core.List.{List, [], _∷_}
 use Prim.Native.Nat.{ℕ, zero, suc, _+_, _-_, _<_, _≤_}
 use native.Mathlib.Omega.{arith}
 use native.Mathlib.Numerals.{add-one}
-use lib.Dec.{leb}
-use lib.ListN.{length, getD, set, drop}
+use lib.ListN.{length, getD, set, drop, length-set}
 use lib.Seq.{getD-set-same, getD-set-other}
-use borrow.Author.Tests.{leb-false, not-false}
 use Rattle.format.specs.Kinds.{within}
-use Rattle.blocks.specs.Control.{Op, PLAIN, ELSE, ENDIF, BGNLOOP, ENDLOOP, BRK, CONT, DEFAULT, ENDSWITCH, END, UIF, SWITCH, CASE, kindOf, opOf}
-use Rattle.blocks.proofs.Ops.{by-kind}
-use Rattle.blocks.specs.Nesting.{Open, isUif, anySwitch, innermost, nestingRule, switchRule, opens, openAfter, goes, refused, rule}
+use Rattle.blocks.specs.Control.{DEFAULT, CASE}
+use Rattle.blocks.specs.Nesting.{Open, innermost, openAfter}
 use Rattle.registers.proofs.Choices.{never}
-use Rattle.nesting.specs.Held.{openOf, newestFirst, blocksIn, blocksOf, topCode, topStart, topValues, Stacked, SoundBlocks}
+use Rattle.nesting.specs.Arrays.{topCode, topStart, topSet, innermostIs, pushed, popped, recoded, more}
+use Rattle.nesting.specs.Inner.Held.{openOf, newestFirst, blocksIn, blocksOf, topValues, Stacked, SoundBlocks}
 use Rattle.nesting.specs.declared.Blocks.{Blocks}
-use Rattle.nesting.proofs.Stack.{pred, code-cases, label-by, blocks-length}
+use Rattle.nesting.proofs.Stack.{code-cases}
 
 -- ---- What lies below
 
 -- Arrays that agree below m.
 module _ (codes starts codes′ starts′ : List ℕ) where
-  pub blocks-same : (values : List ℕ) (m e : ℕ) → ((k : ℕ) → k < m → getD codes′ k 0 ≡ getD codes k 0) → ((k : ℕ) → k < m → getD starts′ k 0 ≡ getD starts k 0)
+  blocks-same : (values : List ℕ) (m e : ℕ) → ((k : ℕ) → k < m → getD codes′ k 0 ≡ getD codes k 0) → ((k : ℕ) → k < m → getD starts′ k 0 ≡ getD starts k 0)
       → blocksIn codes′ starts′ values m e ≡ blocksIn codes starts values m e
   blocks-same values zero e f g = refl
   blocks-same values (suc m) e f g =
       rw (f m (omega arith), g m (omega arith), blocks-same values m (getD starts m 0) (λ k l. f k (omega arith)) (λ k l. g k (omega arith)))
 
-  pub stacked-same : (m e : ℕ) → ((k : ℕ) → k < m → getD codes′ k 0 ≡ getD codes k 0) → ((k : ℕ) → k < m → getD starts′ k 0 ≡ getD starts k 0)
+  stacked-same : (m e : ℕ) → ((k : ℕ) → k < m → getD codes′ k 0 ≡ getD codes k 0) → ((k : ℕ) → k < m → getD starts′ k 0 ≡ getD starts k 0)
       → Stacked codes starts m e → Stacked codes′ starts′ m e
   stacked-same zero e f g s = tt
   stacked-same (suc m) e f g s =
@@ -43,8 +40,8 @@ set-below ws i x k m l h = getD-set-other ws i k x 0 (λ q. omega arith)
 -- ---- A block is opened
 
 module _ (codes starts : List ℕ) (n end code : ℕ) (a : length codes ≡ 16) (b : length starts ≡ 16) (h : n < 16) where
-  pub pushed-blocks : (values : List ℕ) → blocksIn (set codes n code) (set starts n end) values (n + 1) end ≡ openOf code [] ∷ blocksIn codes starts values n end
-  pushed-blocks values =
+  pushed-in : (values : List ℕ) → blocksIn (set codes n code) (set starts n end) values (n + 1) end ≡ openOf code [] ∷ blocksIn codes starts values n end
+  pushed-in values =
       let z : end - end ≡ 0 = omega arith in
       rw (
         add-one n,
@@ -54,54 +51,88 @@ module _ (codes starts : List ℕ) (n end code : ℕ) (a : length codes ≡ 16) 
         blocks-same codes starts (set codes n code) (set starts n end) values n end (λ k l. set-below codes n code k n l (omega arith)) (λ k l. set-below starts n end k n l (omega arith)),
       )
 
-  pub pushed-stacked : code < 5 → Stacked codes starts n end → Stacked (set codes n code) (set starts n end) (n + 1) end
+  pushed-stacked : code < 5 → Stacked codes starts n end → Stacked (set codes n code) (set starts n end) (n + 1) end
   pushed-stacked c s =
       rw (add-one n, getD-set-same codes n code 0 (omega arith), getD-set-same starts n end 0 (omega arith))
       (c, omega arith, stacked-same codes starts (set codes n code) (set starts n end) n end (λ k l. set-below codes n code k n l (omega arith)) (λ k l. set-below starts n end k n l (omega arith)) s)
 
+module _ (b : Blocks) (sound : SoundBlocks b) (code : ℕ) (h : b .depth < 16) where
+  pub pushed-blocks : (values : List ℕ) → blocksOf (pushed code b) values ≡ openOf code [] ∷ blocksOf b values
+  pushed-blocks = pushed-in (b .codes) (b .starts) (b .depth) (b .held) code (sound .codes) (sound .starts) h
+
+  pub pushed-sound : code < 5 → SoundBlocks (pushed code b)
+  pushed-sound c =
+      record {
+        codes = length-set (b .codes) (b .depth) code ∙ sound .codes;
+        starts = length-set (b .starts) (b .depth) (b .held) ∙ sound .starts;
+        depth = omega arith;
+        stacked = pushed-stacked (b .codes) (b .starts) (b .depth) (b .held) code (sound .codes) (sound .starts) h c (sound .stacked);
+      }
+
 -- ---- A block is closed
 
-module _ (codes starts : List ℕ) (n end : ℕ) where
-  pub closed-none : (values : List ℕ) → n ≡ 0 → blocksIn codes starts values n end ≡ drop 1 (blocksIn codes starts values n end)
-  closed-none values z = rw z refl
+last : (n : ℕ) → suc n - 1 ≡ n
+last n = omega arith
 
-  module _ (h : n ≡ 0 → ⊥) where
-    pub closed-blocks : (values : List ℕ) → blocksIn codes starts values (n - 1) (getD starts (n - 1) 0) ≡ drop 1 (blocksIn codes starts values n end)
-    closed-blocks values = ap (λ (m : ℕ). drop 1 (blocksIn codes starts values m end)) (sym (pred n h))
+popped-in : (codes starts values : List ℕ) (n end : ℕ) → blocksIn codes starts values (n - 1) (topStart starts n end) ≡ drop 1 (blocksIn codes starts values n end)
+popped-in codes starts values zero end = refl
+popped-in codes starts values (suc n) end = rw (last n)
 
-    pub closed-stacked : Stacked codes starts n end → Stacked codes starts (n - 1) (getD starts (n - 1) 0)
-    closed-stacked s =
-        let t : Stacked codes starts (suc (n - 1)) end = subst (λ (m : ℕ). Stacked codes starts m end) (pred n h) s in
-        t .2
+popped-stacked : (codes starts : List ℕ) (n end : ℕ) → Stacked codes starts n end → Stacked codes starts (n - 1) (topStart starts n end)
+popped-stacked codes starts zero end s = s
+popped-stacked codes starts (suc n) end s = rw (last n) (s .2)
 
-    pub closed-below : Stacked codes starts n end → getD starts (n - 1) 0 ≤ end
-    closed-below s =
-        let t : Stacked codes starts (suc (n - 1)) end = subst (λ (m : ℕ). Stacked codes starts m end) (pred n h) s in
-        t .1
+pub popped-blocks : (b : Blocks) (values : List ℕ) → blocksOf (popped b) values ≡ drop 1 (blocksOf b values)
+popped-blocks b values = popped-in (b .codes) (b .starts) values (b .depth) (b .held)
+
+pub popped-sound : (b : Blocks) → SoundBlocks b → SoundBlocks (popped b)
+popped-sound b sound =
+    let d = sound .depth in
+    record {
+      codes = sound .codes;
+      starts = sound .starts;
+      depth = omega arith;
+      stacked = popped-stacked (b .codes) (b .starts) (b .depth) (b .held) (sound .stacked);
+    }
 
 -- ---- The innermost block has another code
 
-module _ (codes starts : List ℕ) (n end code : ℕ) (a : length codes ≡ 16) (h : n ≡ 0 → ⊥) (l : n ≤ 16) where
-  pub recoded-blocks : (values : List ℕ)
-      → blocksIn (set codes (n - 1) code) starts values n end
+module _ (codes starts : List ℕ) (code : ℕ) (a : length codes ≡ 16) where
+  recoded-in : (values : List ℕ) (n end : ℕ) → n ≤ 16 → (n ≡ 0 → ⊥)
+      → blocksIn (topSet codes n code) starts values n end
       ≡ openOf code (newestFirst values (topStart starts n end) (end - topStart starts n end)) ∷ drop 1 (blocksIn codes starts values n end)
-  recoded-blocks values = subst (λ (m : ℕ). blocksIn (set codes (n - 1) code) starts values m end ≡ openOf code (newestFirst values (topStart starts m end) (end - topStart starts m end)) ∷ drop 1 (blocksIn codes starts values m end)) (sym (pred n h)) at-suc where
-    at-suc : blocksIn (set codes (n - 1) code) starts values (suc (n - 1)) end ≡ openOf code (newestFirst values (getD starts (n - 1) 0) (end - getD starts (n - 1) 0)) ∷ blocksIn codes starts values (n - 1) (getD starts (n - 1) 0)
-    at-suc =
-        rw (
-          getD-set-same codes (n - 1) code 0 (omega arith),
-          blocks-same codes starts (set codes (n - 1) code) starts values (n - 1) (getD starts (n - 1) 0) (λ k q. set-below codes (n - 1) code k (n - 1) q (omega arith)) (λ k q. refl),
-        )
+  recoded-in values zero end l h = absurd (h refl)
+  recoded-in values (suc n) end l h =
+      rw (
+        getD-set-same codes n code 0 (omega arith),
+        blocks-same codes starts (set codes n code) starts values n (getD starts n 0) (λ k q. set-below codes n code k n q (omega arith)) (λ k q. refl),
+      )
 
-  pub recoded-stacked : code < 5 → Stacked codes starts n end → Stacked (set codes (n - 1) code) starts n end
-  recoded-stacked c s = subst (λ (m : ℕ). Stacked (set codes (n - 1) code) starts m end) (sym (pred n h)) at-suc where
-    t : Stacked codes starts (suc (n - 1)) end
-    t = subst (λ (m : ℕ). Stacked codes starts m end) (pred n h) s
+  recoded-stacked : (n end : ℕ) → n ≤ 16 → code < 5 → Stacked codes starts n end → Stacked (topSet codes n code) starts n end
+  recoded-stacked zero end l c s = tt
+  recoded-stacked (suc n) end l c s =
+      rw (getD-set-same codes n code 0 (omega arith))
+      (c, s .1, stacked-same codes starts (set codes n code) starts n (getD starts n 0) (λ k q. set-below codes n code k n q (omega arith)) (λ k q. refl) (s .2))
 
-    at-suc : Stacked (set codes (n - 1) code) starts (suc (n - 1)) end
-    at-suc =
-        rw (getD-set-same codes (n - 1) code 0 (omega arith))
-        (c, t .1, stacked-same codes starts (set codes (n - 1) code) starts (n - 1) (getD starts (n - 1) 0) (λ k q. set-below codes (n - 1) code k (n - 1) q (omega arith)) (λ k q. refl) (t .2))
+  length-top : (n : ℕ) → length (topSet codes n code) ≡ 16
+  length-top zero = a
+  length-top (suc n) = length-set codes n code ∙ a
+
+module _ (b : Blocks) (sound : SoundBlocks b) (code : ℕ) where
+  pub recoded-blocks : (values : List ℕ) → (b .depth ≡ 0 → ⊥) → blocksOf (recoded code b) values ≡ openOf code (topValues b values) ∷ drop 1 (blocksOf b values)
+  recoded-blocks values h = recoded-in (b .codes) (b .starts) code (sound .codes) values (b .depth) (b .held) (sound .depth) h
+
+  pub recoded-sound : code < 5 → SoundBlocks (recoded code b)
+  recoded-sound c =
+      record {
+        codes = length-top (b .codes) (b .starts) code (sound .codes) (b .depth);
+        starts = sound .starts;
+        depth = sound .depth;
+        stacked = recoded-stacked (b .codes) (b .starts) code (sound .codes) (b .depth) (b .held) (sound .depth) c (sound .stacked);
+      }
+
+pub some-open : (b : Blocks) (values : List ℕ) (f : Open → Bool) → innermost f (blocksOf b values) ≡ true → b .depth ≡ 0 → ⊥
+some-open b values f h e = never (rw e at h)
 
 -- ---- The innermost block has one word more
 
@@ -130,96 +161,30 @@ relabel-default : (x : ℕ) (vs : List ℕ) (σ : List Open) (k : ℕ) → k < 5
 relabel-default x vs σ =
     code-cases (λ (k : ℕ). within 3 4 k ≡ true → openOf 4 vs ∷ σ ≡ openAfter DEFAULT x (openOf k vs ∷ σ)) (λ e. never e) (λ e. never e) (λ e. never e) (λ e. refl) (λ e. refl)
 
-pub labelled-blocks : (codes starts values : List ℕ) (n end x : ℕ) → length values ≡ 1024 → end < 1024 → within 3 4 (topCode codes n) ≡ true → Stacked codes starts n end
+more-in : (codes starts values : List ℕ) (n end x : ℕ) → length values ≡ 1024 → end < 1024 → within 3 4 (topCode codes n) ≡ true → Stacked codes starts n end
     → blocksIn codes starts (set values end x) n (end + 1) ≡ openAfter CASE x (blocksIn codes starts values n end)
-labelled-blocks codes starts values zero end x v h t s = refl
-labelled-blocks codes starts values (suc n) end x v h t s =
+more-in codes starts values zero end x v h t s = refl
+more-in codes starts values (suc n) end x v h t s =
     rw (newest-more values x (getD starts n 0) end (s .1) (omega arith), blocks-below codes starts values end x n (getD starts n 0) (s .1) (s .2))
     (relabel-case x (newestFirst values (getD starts n 0) (end - getD starts n 0)) (blocksIn codes starts values n (getD starts n 0)) (getD codes n 0) (s .0) t)
 
-pub labelled-stacked : (codes starts : List ℕ) (n end : ℕ) → Stacked codes starts n end → Stacked codes starts n (end + 1)
-labelled-stacked codes starts zero end s = tt
-labelled-stacked codes starts (suc n) end s = (s .0, omega (arith, s .1), s .2)
+more-stacked : (codes starts : List ℕ) (n end : ℕ) → Stacked codes starts n end → Stacked codes starts n (end + 1)
+more-stacked codes starts zero end s = tt
+more-stacked codes starts (suc n) end s = (s .0, omega (arith, s .1), s .2)
 
-pub defaulted-blocks : (codes starts values : List ℕ) (n end x : ℕ) → within 3 4 (topCode codes n) ≡ true → Stacked codes starts n end
+defaulted-in : (codes starts values : List ℕ) (n end x : ℕ) → within 3 4 (topCode codes n) ≡ true → Stacked codes starts n end
     → openOf 4 (newestFirst values (topStart starts n end) (end - topStart starts n end)) ∷ drop 1 (blocksIn codes starts values n end) ≡ openAfter DEFAULT x (blocksIn codes starts values n end)
-defaulted-blocks codes starts values zero end x t s = never t
-defaulted-blocks codes starts values (suc n) end x t s =
+defaulted-in codes starts values zero end x t s = never t
+defaulted-in codes starts values (suc n) end x t s =
     relabel-default x (newestFirst values (getD starts n 0) (end - getD starts n 0)) (blocksIn codes starts values n (getD starts n 0)) (getD codes n 0) (s .0) t
 
--- ---- By the kind of the instruction
+module _ (b : Blocks) (sound : SoundBlocks b) (values : List ℕ) (x : ℕ) (switch : innermostIs 3 4 b ≡ true) where
+  pub more-blocks : length values ≡ 1024 → b .held < 1024 → blocksOf (more b) (set values (b .held) x) ≡ openAfter CASE x (blocksOf b values)
+  more-blocks v h = more-in (b .codes) (b .starts) values (b .depth) (b .held) x v h switch (sound .stacked)
 
-switch-on-top : (b : Blocks) (values : List ℕ) (k kind : ℕ) → ((σ : List Open) → nestingRule (opOf k) σ ≡ innermost anySwitch σ) → SoundBlocks b → kind ≡ k
-    → nestingRule (opOf kind) (blocksOf b values) ≡ true → within 3 4 (topCode (b .codes) (b .depth)) ≡ true
-switch-on-top b values k kind rule sound e h = label-by k rule b sound kind _ values e refl ∙ h
+  pub defaulted-blocks : openOf 4 (topValues b values) ∷ drop 1 (blocksOf b values) ≡ openAfter DEFAULT x (blocksOf b values)
+  defaulted-blocks = defaulted-in (b .codes) (b .starts) values (b .depth) (b .held) x switch (sound .stacked)
 
-pub case-top : (b : Blocks) (values : List ℕ) (kind : ℕ) → SoundBlocks b → kind ≡ 0x92 → nestingRule (opOf kind) (blocksOf b values) ≡ true → within 3 4 (topCode (b .codes) (b .depth)) ≡ true
-unfolding opOf
-case-top b values kind = switch-on-top b values 0x92 kind (λ σ. refl)
-
-none-refused : (b : Blocks) (values : List ℕ) (f : Open → Bool) → innermost f (blocksOf b values) ≡ true → b .depth ≡ 0 → ⊥
-none-refused b values f h e = never (rw e at h)
-
-module _ (b : Blocks) (values : List ℕ) (kind : ℕ) (kept : nestingRule (opOf kind) (blocksOf b values) ≡ true) where
-  pub else-open : kind ≡ 0x81 → b .depth ≡ 0 → ⊥
-  unfolding opOf
-  else-open e = none-refused b values isUif (rw e at kept)
-
-  pub default-open : kind ≡ 0x87 → b .depth ≡ 0 → ⊥
-  unfolding opOf
-  default-open e = none-refused b values anySwitch (rw e at kept)
-
--- The blocks after an instruction of kind k, as one of the functions above leaves them.
-pub after-by : (k kind x : ℕ) (σ l : List Open) → kind ≡ k → l ≡ openAfter (opOf k) x σ → l ≡ openAfter (opOf kind) x σ
-after-by k kind x σ l e q = rw e q
-
-pub after-default : (b : Blocks) (values : List ℕ) (kind x : ℕ) (l : List Open) → SoundBlocks b → kind ≡ 0x87 → nestingRule (opOf kind) (blocksOf b values) ≡ true
-    → l ≡ openOf 4 (topValues b values) ∷ drop 1 (blocksOf b values) → l ≡ openAfter (opOf kind) x (blocksOf b values)
-unfolding opOf
-after-default b values kind x l sound e h q =
-    q ∙ defaulted-blocks (b .codes) (b .starts) values (b .depth) (b .held) x (switch-on-top b values 0x87 kind (λ σ. refl) sound e h) (sound .stacked) ∙ rw e refl
-
-pub after-others : (kind x : ℕ) (σ : List Open) → (kind ≡ 0x81 → ⊥) → (kind ≡ 0x82 → ⊥) → (kind ≡ 0x83 → ⊥) → (kind ≡ 0x84 → ⊥) → (kind ≡ 0x87 → ⊥) → (kind ≡ 0x88 → ⊥)
-    → (kind ≡ 0x90 → ⊥) → (kind ≡ 0x91 → ⊥) → (kind ≡ 0x92 → ⊥) → σ ≡ openAfter (opOf kind) x σ
-after-others kind x σ a b c d e f g h i = by-kind (λ o. σ ≡ openAfter o x σ) kind on refl
-  where
-    on : (o : Op) → kind ≡ kindOf o → σ ≡ openAfter o x σ
-    on ELSE q = absurd (a q)
-    on ENDIF q = absurd (b q)
-    on BGNLOOP q = absurd (c q)
-    on ENDLOOP q = absurd (d q)
-    on BRK q = refl
-    on CONT q = refl
-    on DEFAULT q = absurd (e q)
-    on ENDSWITCH q = absurd (f q)
-    on END q = refl
-    on UIF q = absurd (g q)
-    on SWITCH q = absurd (h q)
-    on CASE q = absurd (i q)
-    on PLAIN q = refl
-
--- ---- What the rule says
-
-module _ (b : Blocks) (values : List ℕ) (kind x : ℕ) (r : Bool) (kept : (v : List ℕ) → r ≡ nestingRule (opOf kind) (blocksOf b v)) where
-  pub rule-10 : not r ≡ true → refused 10 ≡ rule (opOf kind) x (blocksOf b values)
-  rule-10 e = rw (← kept values, e)
-
-  pub nesting-is-kept : not r ≡ false → nestingRule (opOf kind) (blocksOf b values) ≡ true
-  nesting-is-kept e = sym (kept values) ∙ not-false r e
-
-  module _ (fine : not r ≡ false) (s : Bool) (same : s ≡ switchRule (opOf kind) x (blocksOf b values)) where
-    pub rule-11 : not s ≡ true → refused 11 ≡ rule (opOf kind) x (blocksOf b values)
-    rule-11 e = rw (← kept values, fine, ← same, e)
-
-    module _ (right : not s ≡ false) (o : Bool) (opening : o ≡ opens (opOf kind)) where
-      pub rule-12 : (o && leb 16 (b .depth)) ≡ true → refused 12 ≡ rule (opOf kind) x (blocksOf b values)
-      rule-12 e = rw (← kept values, fine, ← same, right, ← opening, blocks-length (b .codes) (b .starts) values (b .depth) (b .held), e)
-
-      pub rule-goes : (l : List Open) → (o && leb 16 (b .depth)) ≡ false → l ≡ openAfter (opOf kind) x (blocksOf b values) → goes l ≡ rule (opOf kind) x (blocksOf b values)
-      rule-goes l e q = rw (← kept values, fine, ← same, right, ← opening, blocks-length (b .codes) (b .starts) values (b .depth) (b .held), e, q)
-
-pub room-left : (kind depth : ℕ) (o : Bool) → o ≡ opens (opOf kind) → (o && leb 16 depth) ≡ false → opens (opOf kind) ≡ true → depth < 16
-room-left kind depth o e f t = leb-false 16 depth (rw (e, t) at f)
-
-pub room-for : (k : ℕ) → opens (opOf k) ≡ true → (kind depth : ℕ) → (opens (opOf kind) ≡ true → depth < 16) → kind ≡ k → depth < 16
-room-for k o kind depth f e = f (rw e o)
+pub more-sound : (b : Blocks) → SoundBlocks b → SoundBlocks (more b)
+more-sound b sound =
+    record { codes = sound .codes; starts = sound .starts; depth = sound .depth; stacked = more-stacked (b .codes) (b .starts) (b .depth) (b .held) (sound .stacked) }

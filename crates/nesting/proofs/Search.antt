@@ -1,5 +1,5 @@
--- A search in the tree of a SWITCH's words. What is left of it is the whole; the word and the node's have the same bits up to the
--- node's depth, so at depth 32 they are the same.
+-- A search in the tree of a SWITCH's words: the word and the node's have the same bits up to the node's depth, so at depth 33 they are
+-- the same, and a search that looks at 33 nodes finds each word that is there and no other.
 -- Assumes nothing.
 use mathlib.Core.Path.{_≡_, refl, sym, ap, _∙_, subst}
 use mathlib.Core.Bool.{Bool, true, false, or-true}
@@ -8,32 +8,32 @@ use mathlib.Core.Logic.{⊎-elim}
 use Prim.Native.Nat.{ℕ, zero, suc, _+_, _-_, _/_, _%_, _^_, _<_, _≤_}
 use native.Mathlib.Omega.{arith}
 use native.Mathlib.Nat.{mod-lt, mod-one, mod-eq-of-lt, eq-or-lt-of-le}
-use mir.Syntax.{w32}
-use mir.Val.{Fits}
 use lib.Dec.{eqb}
 use lib.ListN.{getD}
 use lib.Pow.{mod-pow-add}
 use borrow.Author.Count.{below-more}
 use borrow.Author.Tests.{eq-eqb, ne-eqb, eqb-true, eqb-false}
+use Rattle.words.specs.Word.{bit}
 use Rattle.blocks.specs.Nesting.{some}
-use Rattle.nesting.specs.Held.{newestFirst}
-use Rattle.nesting.specs.Tree.{bitOf, slotOf, ending, mostNodes, placeIn, isHere, Tree}
+use Rattle.nesting.specs.Search.{slotOf, ending, mostNodes, placeIn, isHere}
+use Rattle.nesting.specs.Inner.Tree.{Tree}
+use Rattle.nesting.specs.Inner.Held.{newestFirst}
 use Rattle.nesting.specs.declared.tree.Place.{Place}
 use Rattle.nesting.specs.declared.tree.Place.the-variants.{Here, Root, Missing}
 
 -- ---- Bits
 
-pub bit-small : (x d : ℕ) → bitOf x d < 2
+pub bit-small : (x d : ℕ) → bit x d < 2
 bit-small x d = mod-lt (x / 2 ^ d) (omega arith)
 
 -- Words whose first d bits are the same are the same modulo 2 ^ d.
-same-bits : (x y d : ℕ) → ((k : ℕ) → k < d → bitOf x k ≡ bitOf y k) → x % 2 ^ d ≡ y % 2 ^ d
+same-bits : (x y d : ℕ) → ((k : ℕ) → k < d → bit x k ≡ bit y k) → x % 2 ^ d ≡ y % 2 ^ d
 same-bits x y zero h = mod-one x ∙ sym (mod-one y)
 same-bits x y (suc d) h =
     let e : suc d ≡ 1 + d = omega arith in
     rw e (mod-pow-add x 1 d ∙ rw (h d (omega arith), same-bits x y d (λ k l. h k (omega arith))) (sym (mod-pow-add y 1 d)))
 
-same-words : (x y : ℕ) → x < 2 ^ 32 → y < 2 ^ 32 → ((k : ℕ) → k < 32 → bitOf x k ≡ bitOf y k) → x ≡ y
+same-words : (x y : ℕ) → x < 2 ^ 32 → y < 2 ^ 32 → ((k : ℕ) → k < 32 → bit x k ≡ bit y k) → x ≡ y
 same-words x y a b h = sym (mod-eq-of-lt a) ∙ same-bits x y 32 h ∙ mod-eq-of-lt b
 
 -- ---- A search
@@ -95,7 +95,7 @@ pub record Standing (values links : List ℕ) (from end : ℕ) (t : Tree values 
   pub after : from ≤ node
   pub before : node < end
   pub level : t .level node ≡ depth
-  pub agrees : (k : ℕ) → k < depth → bitOf x k ≡ bitOf (getD values node 0) k
+  pub agrees : (k : ℕ) → k < depth → bit x k ≡ bit (getD values node 0) k
 
 module _ (values links : List ℕ) (from end : ℕ) (t : Tree values links from end) (x : ℕ) where
   pub stands-first : from < end → Standing values links from end t x from 0
@@ -104,7 +104,7 @@ module _ (values links : List ℕ) (from end : ℕ) (t : Tree values links from 
   module _ (node depth : ℕ) (s : Standing values links from end t x node depth) where
     pub stands-next : (getD links (slotOf node depth x) 0 ≡ 0 → ⊥) → Standing values links from end t x (getD links (slotOf node depth x) 0) (depth + 1)
     stands-next z =
-        let c = t .below node (bitOf x depth) (s .after) (s .before) (bit-small x depth) z in
+        let c = t .below node (bit x depth) (s .after) (s .before) (bit-small x depth) z in
         let a = s .after in
         let e : t .level node ≡ depth = s .level in
         record {
@@ -112,16 +112,37 @@ module _ (values links : List ℕ) (from end : ℕ) (t : Tree values links from 
           before = c .inside;
           level = c .deeper ∙ ap (λ (n : ℕ). n + 1) e;
           agrees =
-              below-more (λ (k : ℕ). bitOf x k ≡ bitOf (getD values (getD links (slotOf node depth x) 0) 0) k) depth
+              below-more (λ (k : ℕ). bit x k ≡ bit (getD values (getD links (slotOf node depth x) 0) 0) k) depth
               (λ k l. s .agrees k l ∙ sym (c .shares k (rw e l)))
               (sym (rw e at (c .turns)));
         }
 
-    -- A word that differs from the node's does so at a bit from the depth on, so a search goes no deeper than 32.
-    stands-shallow : x < 2 ^ 32 → getD values node 0 < 2 ^ 32 → (x ≡ getD values node 0 → ⊥) → depth ≤ 32 → depth < 32
-    stands-shallow a b n h = ⊎-elim (λ e. absurd (n (same-words x (getD values node 0) a b (λ k l. s .agrees k (rw e l))))) (λ l. l) (eq-or-lt-of-le h)
+    -- A node that lies so deep has the word itself.
+    stands-deep : x < 2 ^ 32 → 32 ≤ depth → x ≡ getD values node 0
+    stands-deep a h = same-words x (getD values node 0) a (t .words node (s .after) (s .before)) (λ k l. s .agrees k (omega arith))
 
 -- ---- What the search says
+
+-- What was found is a word from a place to `end`.
+record Found (values : List ℕ) (from end x : ℕ) : Type 0 where
+  place : ℕ
+  after : from ≤ place
+  before : place < end
+  word : x ≡ getD values place 0
+
+module _ (values links : List ℕ) (from end : ℕ) (t : Tree values links from end) (x : ℕ) (small : x < 2 ^ 32) where
+  at-node : (node d : ℕ) → Standing values links from end t x node d → x ≡ getD values node 0 → Found values from end x
+  at-node node d s e = record { place = node; after = s .after; before = s .before; word = e }
+
+  found-from : (m node d : ℕ) → Standing values links from end t x node d → d + m ≡ mostNodes → ending values links x m node d ≡ Here → Found values from end x
+  unfolding ending
+  found-from zero node d s c e = at-node node d s (stands-deep values links from end t x node d s small (omega arith))
+  found-from (suc m) node d s c e =
+      ways values links x (λ (p : Place). p ≡ Here → Found values from end x) m node d
+      (λ q _. at-node node d s q)
+      (λ _ _ q. missing-not-here _ q)
+      (λ _ z q. found-from m (getD links (slotOf node d x) 0) (d + 1) (stands-next values links from end t x node d s z) (omega arith) q)
+      e
 
 some-at : (x from j : ℕ) (values : List ℕ) (n : ℕ) → j < n → x ≡ getD values (from + j) 0 → some (eqb x) (newestFirst values from n) ≡ true
 some-at x from j values zero h e = absurd (omega arith)
@@ -133,91 +154,24 @@ some-none : (x from : ℕ) (values : List ℕ) (n : ℕ) → ((j : ℕ) → j < 
 some-none x from values zero h = refl
 some-none x from values (suc n) h = rw (ne-eqb x _ (h n (omega arith)), some-none x from values n (λ j l. h j (omega arith)))
 
--- The search has come to a node: the rest of it is the whole.
-pub record Searching (values links : List ℕ) (from end x node depth : ℕ) : Type 0 where
-  pub tree : Tree values links from end
-  pub stands : Standing values links from end tree x node depth
-  pub shallow : depth ≤ 32
-  pub word : x < 2 ^ 32
-  pub words : (k : ℕ) → getD values k 0 < 2 ^ 32
-  pub left : placeIn values links from end x ≡ ending values links x (mostNodes - depth) node depth
+-- The search ends at the word's node where the word is one of those from a place to `end`.
+module _ (values links : List ℕ) (from end x : ℕ) (t : Tree values links from end) (small : x < 2 ^ 32) (ordered : from ≤ end) where
+  pub here-among : isHere (placeIn values links from end x) ≡ some (eqb x) (newestFirst values from (end - from))
+  here-among = ⊎-elim none (λ l. rw (ne-eqb from end (λ e. omega arith)) (by l (ending values links x mostNodes from 0) refl)) (eq-or-lt-of-le ordered) where
+    none : from ≡ end → isHere (placeIn values links from end x) ≡ some (eqb x) (newestFirst values from (end - from))
+    none e = let z : end - from ≡ 0 = omega arith in rw (eq-eqb from end e, z)
 
-module _ (values links : List ℕ) (from end x : ℕ) where
-  pub search-root : from ≡ end → Root ≡ placeIn values links from end x
-  search-root e = rw (eq-eqb from end e)
+    found : Found values from end x → true ≡ some (eqb x) (newestFirst values from (end - from))
+    found f =
+        let a = f .after in
+        let b = f .before in
+        let q : from + (f .place - from) ≡ f .place = omega arith in
+        sym (some-at x from (f .place - from) values (end - from) (omega arith) (rw q (f .word)))
 
-  pub root-empty : from ≡ end → false ≡ some (eqb x) (newestFirst values from (end - from))
-  root-empty e = let z : end - from ≡ 0 = omega arith in rw z
+    here : (j : ℕ) → j < end - from → x ≡ getD values (from + j) 0 → ending values links x mostNodes from 0 ≡ Here
+    here j l q = subst (λ (y : ℕ). ending values links y mostNodes from 0 ≡ Here) (sym q) (t .all (from + j) (omega arith) (omega arith))
 
-  pub search-first : (from ≡ end → ⊥) → from ≤ end → Tree values links from end → x < 2 ^ 32 → ((k : ℕ) → Fits w32 (getD values k 0)) → Searching values links from end x from 0
-  search-first n h t a b =
-      record {
-        tree = t;
-        stands = stands-first values links from end t x (omega arith);
-        shallow = omega arith;
-        word = a;
-        words = λ k. b k .fits;
-        left = rw (ne-eqb from end n);
-      }
-
-  module _ (node depth : ℕ) (s : Searching values links from end x node depth) where
-    one-more : mostNodes - depth ≡ suc (32 - depth)
-    one-more = omega (arith, s .shallow)
-
-    pub search-here : x ≡ getD values node 0 → Here ≡ placeIn values links from end x
-    search-here e = sym (s .left ∙ rw one-more (ends-here values links x (32 - depth) node depth e))
-
-    pub here-among : x ≡ getD values node 0 → true ≡ some (eqb x) (newestFirst values from (end - from))
-    here-among e =
-        let a = s .stands .after in
-        let b = s .stands .before in
-        let q : from + (node - from) ≡ node = omega arith in
-        sym (some-at x from (node - from) values (end - from) (omega arith) (rw q e))
-
-    module _ (other : x ≡ getD values node 0 → ⊥) where
-      pub search-shallow : depth < 32
-      search-shallow = stands-shallow values links from end (s .tree) x node depth (s .stands) (s .word) (s .words node) other (s .shallow)
-
-      pub search-less : 32 - (depth + 1) < 32 - depth
-      search-less = omega (arith, search-shallow)
-
-      pub search-next : (slot next : ℕ) → slot ≡ slotOf node depth x → next ≡ getD links slot 0 → (next ≡ 0 → ⊥) → Searching values links from end x next (depth + 1)
-      search-next slot next e f z =
-          let h = search-shallow in
-          let g : next ≡ getD links (slotOf node depth x) 0 = rw e at f in
-          let q : 32 - depth ≡ mostNodes - (depth + 1) = omega arith in
-          rw g
-          (record {
-            tree = s .tree;
-            stands = stands-next values links from end (s .tree) x node depth (s .stands) (rw g at z);
-            shallow = omega arith;
-            word = s .word;
-            words = s .words;
-            left = s .left ∙ rw one-more (goes-on values links x (32 - depth) node depth other (rw g at z) ∙ rw q);
-          })
-
-      pub search-missing : (slot next : ℕ) → slot ≡ slotOf node depth x → next ≡ getD links slot 0 → next ≡ 0 → Missing slot ≡ placeIn values links from end x
-      search-missing slot next e f z = rw e (sym (s .left ∙ rw one-more (ends-missing values links x (32 - depth) node depth other (rw e at (sym f ∙ z)))))
-
-      pub missing-none : (slot next : ℕ) → slot ≡ slotOf node depth x → next ≡ getD links slot 0 → next ≡ 0 → false ≡ some (eqb x) (newestFirst values from (end - from))
-      missing-none slot next e f z = sym (some-none x from values (end - from) (λ j l q. missing-not-here slot (search-missing slot next e f z ∙ sym (found j l q)))) where
-        found : (j : ℕ) → j < end - from → x ≡ getD values (from + j) 0 → Here ≡ placeIn values links from end x
-        found j l q =
-            rw (ne-eqb from end (λ u. omega arith))
-            (sym (subst (λ (y : ℕ). ending values links y mostNodes from 0 ≡ Here) (sym q) (s .tree .all (from + j) (omega arith) (omega arith))))
-
-      pub slot-linked : (slot : ℕ) → slot ≡ slotOf node depth x → end ≤ 1024 → slot < 2048
-      slot-linked slot e h =
-          let b = s .stands .before in
-          omega (arith, bit-small x depth)
-
--- What the variant says.
-module _ (p : Place) (w : Bool) (says : isHere p ≡ w) where
-  pub says-here : p ≡ Here → true ≡ w
-  says-here e = rw e at says
-
-  pub says-root : p ≡ Root → false ≡ w
-  says-root e = rw e at says
-
-  pub says-missing : (slot : ℕ) → p ≡ Missing slot → false ≡ w
-  says-missing slot e = rw e at says
+    by : from < end → (p : Place) → ending values links x mostNodes from 0 ≡ p → isHere p ≡ some (eqb x) (newestFirst values from (end - from))
+    by l Here e = found (found-from values links from end t x small mostNodes from 0 (stands-first values links from end t x l) refl e)
+    by l Root e = absurd (never-root values links x mostNodes from 0 e)
+    by l (Missing slot) e = sym (some-none x from values (end - from) (λ j u q. missing-not-here slot (sym e ∙ here j u q)))

@@ -1,28 +1,18 @@
 -- The trees of the open blocks, as blocks are opened, closed and labelled: one word more is a node more of the innermost tree, and
 -- the trees around it, which end where it starts, have neither a word nor a link changed.
 -- Assumes nothing.
-use mathlib.Core.Path.{_≡_, _∙_, subst}
+use mathlib.Core.Path.{_≡_, _∙_}
 use mathlib.Core.List.{List}
-use Prim.Native.Nat.{ℕ, zero, suc, _+_, _-_, _*_, _<_, _≤_}
+use Prim.Native.Nat.{ℕ, zero, suc, _+_, _-_, _*_, _^_, _<_, _≤_}
 use native.Mathlib.Omega.{arith}
 use native.Mathlib.Numerals.{add-one}
 use lib.ListN.{length, getD, set, length-set}
 use lib.Seq.{getD-set-same, getD-set-other}
-use Rattle.nesting.specs.Held.{topStart, Stacked, Treed, SoundBlocks, Trees}
-use Rattle.nesting.specs.Tree.{placeIn, hung, Tree}
+use Rattle.nesting.specs.Search.{placeIn, hung}
+use Rattle.nesting.specs.Arrays.{topStart, innermostStart, pushed, popped, recoded, more}
+use Rattle.nesting.specs.Inner.Held.{Stacked, Treed, SoundBlocks, Trees}
 use Rattle.nesting.specs.declared.Blocks.{Blocks}
-use Rattle.nesting.specs.declared.tree.Place.{Place}
-use Rattle.nesting.proofs.Stack.{pred}
 use Rattle.nesting.proofs.Trees.{tree-none, tree-same, tree-more, hung-below, length-hung}
-
--- ---- The innermost tree
-
-pub top-tree : (b : Blocks) (values links : List ℕ) (start : ℕ) → start ≡ topStart (b .starts) (b .depth) (b .held) → Trees b values links
-    → Tree values links start (b .held)
-top-tree b values links start e t = rw e (by (b .depth) (t .each)) where
-  by : (n : ℕ) → Treed values links (b .starts) n (b .held) → Tree values links (topStart (b .starts) n (b .held)) (b .held)
-  by zero s = tree-none values links (b .held)
-  by (suc n) s = s .0
 
 -- ---- Blocks are opened and closed
 
@@ -32,16 +22,26 @@ treed-starts values links starts starts′ zero e f s = tt
 treed-starts values links starts starts′ (suc m) e f s =
     rw (f m (omega arith)) (s .0, treed-starts values links starts starts′ m (getD starts m 0) (λ k l. f k (omega arith)) (s .1))
 
-module _ (values links starts : List ℕ) (n end : ℕ) where
-  pub pushed-treed : length starts ≡ 16 → n < 16 → Treed values links starts n end → Treed values links (set starts n end) (n + 1) end
-  pushed-treed b h s =
+module _ (values links starts : List ℕ) where
+  pushed-treed : (n end : ℕ) → length starts ≡ 16 → n < 16 → Treed values links starts n end → Treed values links (set starts n end) (n + 1) end
+  pushed-treed n end b h s =
       rw (add-one n, getD-set-same starts n end 0 (omega arith))
       (tree-none values links end, treed-starts values links starts (set starts n end) n end (λ k l. getD-set-other starts n k end 0 (λ q. omega arith)) s)
 
-  pub closed-treed : (n ≡ 0 → ⊥) → Treed values links starts n end → Treed values links starts (n - 1) (getD starts (n - 1) 0)
-  closed-treed h s =
-      let t : Treed values links starts (suc (n - 1)) end = subst (λ (m : ℕ). Treed values links starts m end) (pred n h) s in
-      t .1
+  popped-treed : (n end : ℕ) → Treed values links starts n end → Treed values links starts (n - 1) (topStart starts n end)
+  popped-treed zero end s = s
+  popped-treed (suc n) end s = let e : suc n - 1 ≡ n = omega arith in rw e (s .1)
+
+module _ (b : Blocks) (values links : List ℕ) (t : Trees b values links) where
+  pub pushed-trees : (code : ℕ) → SoundBlocks b → b .depth < 16 → Trees (pushed code b) values links
+  pushed-trees code sound h =
+      record { room = t .room; slots = t .slots; each = pushed-treed values links (b .starts) (b .depth) (b .held) (sound .starts) h (t .each) }
+
+  pub popped-trees : Trees (popped b) values links
+  popped-trees = record { room = t .room; slots = t .slots; each = popped-treed values links (b .starts) (b .depth) (b .held) (t .each) }
+
+  pub recoded-trees : (code : ℕ) → Trees (recoded code b) values links
+  recoded-trees code = record { room = t .room; slots = t .slots; each = t .each }
 
 -- ---- The innermost block has one word more
 
@@ -55,24 +55,22 @@ treed-same values links values′ links′ codes starts (suc n) end o f g s =
     )
 
 -- The word's node hangs where the search for it ended.
-module _ (values links codes starts : List ℕ) (end x : ℕ) (words : length values ≡ 1024) (slots : length links ≡ 2048) (h : end < 1024) where
-  labelled-treed : (n : ℕ) → Stacked codes starts n end → Treed values links starts n end
+module _ (values links codes starts : List ℕ) (end x : ℕ) (words : length values ≡ 1024) (slots : length links ≡ 2048) (h : end < 1024) (small : x < 2 ^ 32) where
+  more-treed : (n : ℕ) → Stacked codes starts n end → Treed values links starts n end
       → Treed (set values end x) (hung links (placeIn values links (topStart starts n end) end x) end) starts n (end + 1)
-  labelled-treed zero o s = tt
-  labelled-treed (suc n) o s =
+  more-treed zero o s = tt
+  more-treed (suc n) o s =
       let u : getD starts n 0 ≤ end = o .1 in (
-        tree-more values links (getD starts n 0) end x (s .0) (omega arith) (omega arith) u,
+        tree-more values links (getD starts n 0) end x (s .0) small (omega arith) (omega arith) u,
         treed-same values links (set values end x) (hung links (placeIn values links (getD starts n 0) end x) end) codes starts n (getD starts n 0) (o .2)
-            (λ k q. getD-set-other values end k x 0 (λ y. omega arith)) (hung-below values links (getD starts n 0) end x (s .0) (omega arith) (omega arith) u) (s .1),
+            (λ k q. getD-set-other values end k x 0 (λ y. omega arith)) (hung-below values links (getD starts n 0) end x (s .0) small (omega arith) (omega arith) u) (s .1),
       )
 
-pub labelled-trees : (b : Blocks) (values links after : List ℕ) (start x : ℕ) (place : Place) → SoundBlocks b → b .held < 1024 → Trees b values links
-    → start ≡ topStart (b .starts) (b .depth) (b .held) → place ≡ placeIn values links start (b .held) x → after ≡ hung links place (b .held)
-    → Trees (record { codes = b .codes; starts = b .starts; depth = b .depth; held = b .held + 1 }) (set values (b .held) x) after
-labelled-trees b values links after start x place o h t e p a =
-    rw (a, p, e)
-    (record {
+pub more-trees : (b : Blocks) (values links : List ℕ) (x : ℕ) → SoundBlocks b → b .held < 1024 → Trees b values links → x < 2 ^ 32
+    → Trees (more b) (set values (b .held) x) (hung links (placeIn values links (innermostStart b) (b .held) x) (b .held))
+more-trees b values links x sound h t small =
+    record {
       room = length-set values (b .held) x ∙ t .room;
-      slots = length-hung links (placeIn values links (topStart (b .starts) (b .depth) (b .held)) (b .held) x) (b .held) ∙ t .slots;
-      each = labelled-treed values links (b .codes) (b .starts) (b .held) x (t .room) (t .slots) h (b .depth) (o .stacked) (t .each);
-    })
+      slots = length-hung links (placeIn values links (innermostStart b) (b .held) x) (b .held) ∙ t .slots;
+      each = more-treed values links (b .codes) (b .starts) (b .held) x (t .room) (t .slots) h small (b .depth) (sound .stacked) (t .each);
+    }

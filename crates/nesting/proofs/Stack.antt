@@ -1,27 +1,30 @@
--- The open blocks as they stand in the checker's arrays: what a rule asks of the innermost, or of some block, is a range of
--- codes.
+-- The open blocks as they stand in arrays: what a rule asks of the innermost, or of some block, is a range of codes, and the search
+-- for a word says whether a CASE has had it.
 -- Assumes nothing.
-use mathlib.Core.Path.{_≡_, refl, sym, ap, _∙_, subst}
+use mathlib.Core.Path.{_≡_, refl, sym, ap, _∙_}
 use mathlib.Core.Bool.{Bool, true, false, not, _&&_, _||_}
 use mathlib.Core.List.{List}
-use Prim.Native.Nat.{ℕ, zero, suc, _-_, _<_, _≤_}
+use mathlib.Core.Logic.{⊎-elim}
+use Prim.Native.Nat.{ℕ, zero, suc, _-_, _^_, _<_, _≤_}
 use native.Mathlib.Omega.{arith}
-use lib.Dec.{eqb}
+use lib.Dec.{eqb, leb}
 use lib.ListN.{length, getD}
+use borrow.Author.Tests.{eq-eqb, ne-eqb, le-leb, lt-leb}
 use Rattle.format.specs.Kinds.{within}
-use Rattle.blocks.specs.Control.{Op, PLAIN, ELSE, ENDIF, BGNLOOP, ENDLOOP, BRK, CONT, DEFAULT, ENDSWITCH, END, UIF, SWITCH, CASE, kindOf, opOf}
-use Rattle.blocks.specs.Nesting.{Open, isUif, isElse, isLoop, isSwitch, anySwitch, some, innermost, nestingRule, switchRule, opens}
-use Rattle.blocks.proofs.Ops.{by-kind, kind-is}
-use Rattle.registers.proofs.Choices.{and-false}
-use Rattle.nesting.specs.Held.{openOf, newestFirst, blocksIn, blocksOf, topCode, topStart, topValues, someCode, Stacked, SoundBlocks}
+use Rattle.blocks.specs.Control.{Op, PLAIN, ELSE, ENDIF, BGNLOOP, ENDLOOP, BRK, CONT, DEFAULT, ENDSWITCH, END, UIF, SWITCH, CASE}
+use Rattle.blocks.specs.Nesting.{Open, isUif, isElse, isLoop, isSwitch, anySwitch, some, innermost, afterSwitch, nestingRule, switchRule}
+use Rattle.registers.proofs.Choices.{and-false, le-or-lt}
+use Rattle.nesting.specs.Search.{placeIn, isHere}
+use Rattle.nesting.specs.Arrays.{topCode, topStart, someCode, innermostIs, innermostStart, wordless, unlabelled, nestingKept, switchKept}
+use Rattle.nesting.specs.Inner.Tree.{Tree}
+use Rattle.nesting.specs.Inner.Held.{openOf, newestFirst, blocksIn, blocksOf, topValues, Stacked, Treed, SoundBlocks, Trees}
 use Rattle.nesting.specs.declared.Blocks.{Blocks}
+use Rattle.nesting.proofs.Search.{here-among}
+use Rattle.nesting.proofs.Trees.{tree-none}
 
 and-true : (a : Bool) → (a && true) ≡ a
 and-true true = refl
 and-true false = refl
-
-pub pred : (n : ℕ) → (n ≡ 0 → ⊥) → n ≡ suc (n - 1)
-pred n h = omega arith
 
 -- ---- Codes
 
@@ -59,108 +62,57 @@ module _ (codes starts values : List ℕ) where
 
 -- ---- The rule of nesting
 
-module _ (b : Blocks) (sound : SoundBlocks b) (kind : ℕ) (r : Bool) (values : List ℕ) where
-  -- A kind k that asks something of the innermost block, and one that asks it of some block.
-  innermost-by : (k lo hi : ℕ) (f : Open → Bool) → ((σ : List Open) → nestingRule (opOf k) σ ≡ innermost f σ) → within lo hi 5 ≡ false → Ranged f lo hi
-      → kind ≡ k → r ≡ within lo hi (topCode (b .codes) (b .depth)) → r ≡ nestingRule (opOf kind) (blocksOf b values)
-  innermost-by k lo hi f rule z g e q =
-      q ∙ top-is (b .codes) (b .starts) values f lo hi z g (b .depth) (b .held) (sound .stacked) ∙ sym (rule (blocksOf b values)) ∙ rw e refl
+module _ (b : Blocks) (values : List ℕ) (sound : SoundBlocks b) where
+  innermost-by : (f : Open → Bool) (lo hi : ℕ) → within lo hi 5 ≡ false → Ranged f lo hi → innermostIs lo hi b ≡ innermost f (blocksOf b values)
+  innermost-by f lo hi z g = top-is (b .codes) (b .starts) values f lo hi z g (b .depth) (b .held) (sound .stacked)
 
-  some-by : (k lo hi : ℕ) (f : Open → Bool) → ((σ : List Open) → nestingRule (opOf k) σ ≡ some f σ) → Ranged f lo hi
-      → kind ≡ k → r ≡ someCode lo hi (b .codes) (b .depth) → r ≡ nestingRule (opOf kind) (blocksOf b values)
-  some-by k lo hi f rule g e q =
-      q ∙ some-is (b .codes) (b .starts) values f lo hi g (b .depth) (b .held) (sound .stacked) ∙ sym (rule (blocksOf b values)) ∙ rw e refl
+  some-by : (f : Open → Bool) (lo hi : ℕ) → Ranged f lo hi → someCode lo hi (b .codes) (b .depth) ≡ some f (blocksOf b values)
+  some-by f lo hi g = some-is (b .codes) (b .starts) values f lo hi g (b .depth) (b .held) (sound .stacked)
 
-  pub else-by : kind ≡ 0x81 → r ≡ within 0 0 (topCode (b .codes) (b .depth)) → r ≡ nestingRule (opOf kind) (blocksOf b values)
-  unfolding opOf
-  else-by = innermost-by 0x81 0 0 isUif (λ σ. refl) refl (ranged isUif 0 0 (λ vs. (refl, refl, refl, refl, refl)))
+  pub switch-by : innermostIs 3 4 b ≡ innermost anySwitch (blocksOf b values)
+  switch-by = innermost-by anySwitch 3 4 refl (ranged anySwitch 3 4 (λ vs. (refl, refl, refl, refl, refl)))
 
-  pub endif-by : kind ≡ 0x82 → r ≡ within 0 1 (topCode (b .codes) (b .depth)) → r ≡ nestingRule (opOf kind) (blocksOf b values)
-  unfolding opOf
-  endif-by =
-      innermost-by 0x82 0 1 (λ o. isUif o || isElse o) (λ σ. refl) refl (ranged (λ o. isUif o || isElse o) 0 1 (λ vs. (refl, refl, refl, refl, refl)))
+  pub nesting-is : (o : Op) → nestingKept o b ≡ nestingRule o (blocksOf b values)
+  unfolding nestingKept
+  nesting-is ELSE = innermost-by isUif 0 0 refl (ranged isUif 0 0 (λ vs. (refl, refl, refl, refl, refl)))
+  nesting-is ENDIF =
+      innermost-by (λ o. isUif o || isElse o) 0 1 refl (ranged (λ o. isUif o || isElse o) 0 1 (λ vs. (refl, refl, refl, refl, refl)))
+  nesting-is ENDLOOP = innermost-by isLoop 2 2 refl (ranged isLoop 2 2 (λ vs. (refl, refl, refl, refl, refl)))
+  nesting-is CASE = switch-by
+  nesting-is DEFAULT = switch-by
+  nesting-is ENDSWITCH = switch-by
+  nesting-is BRK = some-by (λ o. isLoop o || anySwitch o) 2 4 (ranged (λ o. isLoop o || anySwitch o) 2 4 (λ vs. (refl, refl, refl, refl, refl)))
+  nesting-is CONT = some-by isLoop 2 2 (ranged isLoop 2 2 (λ vs. (refl, refl, refl, refl, refl)))
+  nesting-is END = ap (λ (n : ℕ). eqb n 0) (sym (blocks-length (b .codes) (b .starts) values (b .depth) (b .held)))
+  nesting-is PLAIN = refl
+  nesting-is BGNLOOP = refl
+  nesting-is UIF = refl
+  nesting-is SWITCH = refl
 
-  pub endloop-by : kind ≡ 0x84 → r ≡ within 2 2 (topCode (b .codes) (b .depth)) → r ≡ nestingRule (opOf kind) (blocksOf b values)
-  unfolding opOf
-  endloop-by = innermost-by 0x84 2 2 isLoop (λ σ. refl) refl (ranged isLoop 2 2 (λ vs. (refl, refl, refl, refl, refl)))
+-- ---- The words of the innermost block
 
-  pub brk-by : kind ≡ 0x85 → r ≡ someCode 2 4 (b .codes) (b .depth) → r ≡ nestingRule (opOf kind) (blocksOf b values)
-  unfolding opOf
-  brk-by =
-      some-by 0x85 2 4 (λ o. isLoop o || anySwitch o) (λ σ. refl) (ranged (λ o. isLoop o || anySwitch o) 2 4 (λ vs. (refl, refl, refl, refl, refl)))
+pub start-below : (b : Blocks) → SoundBlocks b → innermostStart b ≤ b .held
+start-below b sound = by (b .depth) (sound .stacked) where
+  by : (n : ℕ) → Stacked (b .codes) (b .starts) n (b .held) → topStart (b .starts) n (b .held) ≤ b .held
+  by zero s = omega arith
+  by (suc n) s = s .1
 
-  pub cont-by : kind ≡ 0x86 → r ≡ someCode 2 2 (b .codes) (b .depth) → r ≡ nestingRule (opOf kind) (blocksOf b values)
-  unfolding opOf
-  cont-by = some-by 0x86 2 2 isLoop (λ σ. refl) (ranged isLoop 2 2 (λ vs. (refl, refl, refl, refl, refl)))
-
--- CASE, DEFAULT and ENDSWITCH.
-pub label-by : (k : ℕ) → ((σ : List Open) → nestingRule (opOf k) σ ≡ innermost anySwitch σ)
-    → (b : Blocks) → SoundBlocks b → (kind : ℕ) (r : Bool) (values : List ℕ)
-    → kind ≡ k → r ≡ within 3 4 (topCode (b .codes) (b .depth)) → r ≡ nestingRule (opOf kind) (blocksOf b values)
-label-by k rule b sound kind r values =
-    innermost-by b sound kind r values k 3 4 anySwitch rule refl (ranged anySwitch 3 4 (λ vs. (refl, refl, refl, refl, refl)))
-
-pub end-by : (b : Blocks) (kind : ℕ) (values : List ℕ) → kind ≡ 0x89 → eqb (b .depth) 0 ≡ nestingRule (opOf kind) (blocksOf b values)
-unfolding opOf
-end-by b kind values e =
-    rw e (ap (λ (n : ℕ). eqb n 0) (sym (blocks-length (b .codes) (b .starts) values (b .depth) (b .held))))
-
-pub nested-anyway : (b : Blocks) (kind : ℕ) (values : List ℕ) → (kind ≡ 0x81 → ⊥) → (kind ≡ 0x82 → ⊥) → (kind ≡ 0x84 → ⊥) → (kind ≡ 0x85 → ⊥)
-    → (kind ≡ 0x86 → ⊥) → (kind ≡ 0x87 → ⊥) → (kind ≡ 0x88 → ⊥) → (kind ≡ 0x89 → ⊥) → (kind ≡ 0x92 → ⊥) → true ≡ nestingRule (opOf kind) (blocksOf b values)
-nested-anyway β kind values a b c d e f g h i = by-kind (λ o. true ≡ nestingRule o (blocksOf β values)) kind on refl
-  where
-    on : (o : Op) → kind ≡ kindOf o → true ≡ nestingRule o (blocksOf β values)
-    on ELSE q = absurd (a q)
-    on ENDIF q = absurd (b q)
-    on BGNLOOP q = refl
-    on ENDLOOP q = absurd (c q)
-    on BRK q = absurd (d q)
-    on CONT q = absurd (e q)
-    on DEFAULT q = absurd (f q)
-    on ENDSWITCH q = absurd (g q)
-    on END q = absurd (h q)
-    on UIF q = refl
-    on SWITCH q = refl
-    on CASE q = absurd (i q)
-    on PLAIN q = refl
-
--- ---- What the code reads
-
-module _ (n : ℕ) where
-  module _ (codes : List ℕ) (lo hi : ℕ) where
-    pub no-code : n ≡ 0 → within lo hi 5 ≡ within lo hi (topCode codes n)
-    no-code z = rw z refl
-
-    pub top-code : (n ≡ 0 → ⊥) → within lo hi (getD codes (n - 1) 0) ≡ within lo hi (topCode codes n)
-    top-code h = ap (λ (m : ℕ). within lo hi (topCode codes m)) (sym (pred n h))
-
-    module _ (w : Bool) (whole : w ≡ someCode lo hi codes n) where
-      pub code-found : (n ≡ 0 → ⊥) → within lo hi (getD codes (n - 1) 0) ≡ true → true ≡ w
-      code-found h t = sym (whole ∙ ap (someCode lo hi codes) (pred n h) ∙ rw t)
-
-      pub code-on : (n ≡ 0 → ⊥) → within lo hi (getD codes (n - 1) 0) ≡ false → w ≡ someCode lo hi codes (n - 1)
-      code-on h t = whole ∙ ap (someCode lo hi codes) (pred n h) ∙ rw t
-
-      pub code-end : n ≡ 0 → false ≡ w
-      code-end z = sym (whole ∙ rw z)
-
-  module _ (starts : List ℕ) (end : ℕ) where
-    pub no-start : n ≡ 0 → end ≡ topStart starts n end
-    no-start z = rw z refl
-
-    pub top-start : (n ≡ 0 → ⊥) → getD starts (n - 1) 0 ≡ topStart starts n end
-    top-start h = ap (λ (m : ℕ). topStart starts m end) (sym (pred n h))
-
-    pub start-below : (codes : List ℕ) → (n ≡ 0 → ⊥) → Stacked codes starts n end → getD starts (n - 1) 0 ≤ end
-    start-below codes h s =
-        let t : Stacked codes starts (suc (n - 1)) end = subst (λ (m : ℕ). Stacked codes starts m end) (pred n h) s in
-        t .1
-
--- ---- The rules of a SWITCH
+pub top-tree : (b : Blocks) (values links : List ℕ) → Trees b values links → Tree values links (innermostStart b) (b .held)
+top-tree b values links t = by (b .depth) (t .each) where
+  by : (n : ℕ) → Treed values links (b .starts) n (b .held) → Tree values links (topStart (b .starts) n (b .held)) (b .held)
+  by zero s = tree-none values links (b .held)
+  by (suc n) s = s .0
 
 length-newest : (ws : List ℕ) (from n : ℕ) → length (newestFirst ws from n) ≡ n
 length-newest ws from zero = refl
 length-newest ws from (suc n) = ap suc (length-newest ws from n)
+
+no-words : (b : Blocks) (values : List ℕ) → wordless b ≡ eqb (length (topValues b values)) 0
+no-words b values = rw (length-newest values (innermostStart b) (b .held - innermostStart b)) (by (b .held) (innermostStart b)) where
+  by : (e s : ℕ) → leb e s ≡ eqb (e - s) 0
+  by e s = ⊎-elim (λ h. rw (le-leb e s h, eq-eqb (e - s) 0 (omega arith))) (λ h. rw (lt-leb e s h, ne-eqb (e - s) 0 (λ q. omega arith))) (le-or-lt e s)
+
+-- ---- The rules of a SWITCH
 
 -- What a rule asks of the innermost block, by its code.
 top-by : (f : Open → Bool) (g : ℕ → Bool) (codes starts values : List ℕ) (n end : ℕ) → Stacked codes starts n end
@@ -171,58 +123,37 @@ top-by f g codes starts values zero end s z p0 p1 p2 p3 p4 = z
 top-by f g codes starts values (suc n) end s z p0 p1 p2 p3 p4 =
     code-cases (λ (k : ℕ). g k ≡ f (openOf k (newestFirst values (getD starts n 0) (end - getD starts n 0)))) p0 p1 p2 p3 p4 (getD codes n 0) (s .0)
 
-module _ (b : Blocks) (sound : SoundBlocks b) (kind x : ℕ) (values : List ℕ) where
+module _ (b : Blocks) (values links : List ℕ) (x : ℕ) (sound : SoundBlocks b) (trees : Trees b values links) (small : x < 2 ^ 32) where
   by-top : (f : Open → Bool) (g : ℕ → Bool) → g 5 ≡ false → g 0 ≡ f (openOf 0 (topValues b values)) → g 1 ≡ f (openOf 1 (topValues b values))
       → g 2 ≡ f (openOf 2 (topValues b values)) → g 3 ≡ f (openOf 3 (topValues b values)) → g 4 ≡ f (openOf 4 (topValues b values))
       → g (topCode (b .codes) (b .depth)) ≡ innermost f (blocksOf b values)
   by-top f g = top-by f g (b .codes) (b .starts) values (b .depth) (b .held) (sound .stacked)
 
-  pub default-kept : (r : Bool) → kind ≡ 0x87 → r ≡ within 3 3 (topCode (b .codes) (b .depth)) → r ≡ switchRule (opOf kind) x (blocksOf b values)
-  unfolding opOf
-  default-kept r e q = rw e (q ∙ by-top (isSwitch (λ vs d. not d)) (within 3 3) refl refl refl refl refl refl)
+  had : isHere (placeIn values links (innermostStart b) (b .held) x) ≡ some (eqb x) (topValues b values)
+  had = here-among values links (innermostStart b) (b .held) x (top-tree b values links trees) small (start-below b sound)
 
-  module _ (start : ℕ) (starts : start ≡ topStart (b .starts) (b .depth) (b .held)) where
-    many : length (topValues b values) ≡ b .held - start
-    many = length-newest values _ (b .held - topStart (b .starts) (b .depth) (b .held)) ∙ ap (λ (s : ℕ). b .held - s) (sym starts)
+  others : not (unlabelled b) ≡ not (afterSwitch (blocksOf b values))
+  others =
+      ap not
+      (by-top (isSwitch (λ vs d. eqb (length vs) 0 && not d)) (λ k. within 3 3 k && wordless b) refl refl refl refl
+      (no-words b values ∙ sym (and-true (eqb (length (topValues b values)) 0))) (sym (and-false (eqb (length (topValues b values)) 0))))
 
-    pub endswitch-kept : (r : Bool) → kind ≡ 0x88 → r ≡ within 3 4 (topCode (b .codes) (b .depth))
-        → (r && not (eqb (b .held - start) 0)) ≡ switchRule (opOf kind) x (blocksOf b values)
-    unfolding opOf
-    endswitch-kept r e q =
-        rw (e, q)
-        (by-top (isSwitch (λ vs d. not (eqb (length vs) 0))) (λ k. within 3 4 k && not (eqb (b .held - start) 0)) refl refl refl refl
-        (ap (λ (m : ℕ). not (eqb m 0)) (sym many)) (ap (λ (m : ℕ). not (eqb m 0)) (sym many)))
-
-    pub case-kept : (r h : Bool) → kind ≡ 0x92 → r ≡ within 3 3 (topCode (b .codes) (b .depth)) → h ≡ some (eqb x) (newestFirst values start (b .held - start))
-        → (r && not h) ≡ switchRule (opOf kind) x (blocksOf b values)
-    unfolding opOf
-    case-kept r h e q s =
-        let v : h ≡ some (eqb x) (topValues b values) = s ∙ rw starts refl in
-        rw (e, q) (by-top (isSwitch (λ vs d. not (d || some (eqb x) vs))) (λ k. within 3 3 k && not h) refl refl refl refl (ap not v) refl)
-
-    pub others-kept : (r : Bool) → (kind ≡ 0x87 → ⊥) → (kind ≡ 0x88 → ⊥) → (kind ≡ 0x92 → ⊥) → r ≡ within 3 3 (topCode (b .codes) (b .depth))
-        → not (r && eqb (b .held - start) 0) ≡ switchRule (opOf kind) x (blocksOf b values)
-    unfolding opOf
-    others-kept r n87 n88 n92 q =
-        rw q
-        (ap not (by-top (isSwitch (λ vs d. eqb (length vs) 0 && not d)) (λ k. within 3 3 k && eqb (b .held - start) 0) refl refl refl refl
-        (sym (and-true (eqb (length (topValues b values)) 0) ∙ ap (λ (m : ℕ). eqb m 0) many)) (sym (and-false (eqb (length (topValues b values)) 0))))
-        ∙ by-kind (λ o. not (innermost (isSwitch (λ vs d. eqb (length vs) 0 && not d)) (blocksOf b values)) ≡ switchRule o x (blocksOf b values)) kind on refl)
-      where
-        on : (o : Op) → kind ≡ kindOf o → not (innermost (isSwitch (λ vs d. eqb (length vs) 0 && not d)) (blocksOf b values)) ≡ switchRule o x (blocksOf b values)
-        on ELSE e = refl
-        on ENDIF e = refl
-        on BGNLOOP e = refl
-        on ENDLOOP e = refl
-        on BRK e = refl
-        on CONT e = refl
-        on DEFAULT e = absurd (n87 e)
-        on ENDSWITCH e = absurd (n88 e)
-        on END e = refl
-        on UIF e = refl
-        on SWITCH e = refl
-        on CASE e = absurd (n92 e)
-        on PLAIN e = refl
-
-pub opens-by : (kind : ℕ) → (eqb kind 0x90 || eqb kind 0x83 || eqb kind 0x91) ≡ opens (opOf kind)
-opens-by kind = rw (kind-is UIF kind refl, kind-is BGNLOOP kind refl, kind-is SWITCH kind refl)
+  pub switch-is : (o : Op) → switchKept o x b values links ≡ switchRule o x (blocksOf b values)
+  unfolding switchKept
+  switch-is CASE =
+      by-top (isSwitch (λ vs d. not (d || some (eqb x) vs))) (λ k. within 3 3 k && not (isHere (placeIn values links (innermostStart b) (b .held) x)))
+      refl refl refl refl (ap not had) refl
+  switch-is DEFAULT = by-top (isSwitch (λ vs d. not d)) (within 3 3) refl refl refl refl refl refl
+  switch-is ENDSWITCH =
+      by-top (isSwitch (λ vs d. not (eqb (length vs) 0))) (λ k. within 3 4 k && not (wordless b))
+      refl refl refl refl (ap not (no-words b values)) (ap not (no-words b values))
+  switch-is PLAIN = others
+  switch-is ELSE = others
+  switch-is ENDIF = others
+  switch-is BGNLOOP = others
+  switch-is ENDLOOP = others
+  switch-is BRK = others
+  switch-is CONT = others
+  switch-is END = others
+  switch-is UIF = others
+  switch-is SWITCH = others

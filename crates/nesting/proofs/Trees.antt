@@ -5,14 +5,16 @@ use mathlib.Core.Path.{_≡_, refl, sym, ap, _∙_}
 use mathlib.Core.Bool.{Bool, true, false, cond}
 use mathlib.Core.List.{List}
 use mathlib.Core.Logic.{_⊎_, inl, inr, ⊎-elim}
-use Prim.Native.Nat.{ℕ, zero, suc, _+_, _*_, _<_, _≤_}
+use Prim.Native.Nat.{ℕ, zero, suc, _+_, _*_, _^_, _<_, _≤_}
 use native.Mathlib.Omega.{arith}
 use native.Mathlib.Nat.{eq-or-lt-of-le}
 use lib.Dec.{eqb}
 use lib.ListN.{length, getD, set, length-set}
 use lib.Seq.{getD-set-same, getD-set-other}
 use borrow.Author.Tests.{eq-eqb, ne-eqb, eqb-true, eqb-false}
-use Rattle.nesting.specs.Tree.{bitOf, slotOf, ending, mostNodes, placeIn, cleared, hung, Linked, Child, Tree}
+use Rattle.words.specs.Word.{bit}
+use Rattle.nesting.specs.Search.{slotOf, ending, mostNodes, placeIn, cleared, hung}
+use Rattle.nesting.specs.Inner.Tree.{Child, Tree}
 use Rattle.nesting.specs.declared.tree.Place.{Place}
 use Rattle.nesting.specs.declared.tree.Place.the-variants.{Here, Root, Missing}
 use Rattle.nesting.proofs.Search.{bit-small, missing-not-here, root-not-missing, ends-here, ends-at, goes-on, ways, never-root, Standing, stands-first, stands-next}
@@ -26,7 +28,7 @@ record Spot (values links : List ℕ) (from end : ℕ) (level : ℕ → ℕ) (x 
   before : node < end
   link : slot ≡ slotOf node (level node) x
   free : getD links slot 0 ≡ 0
-  agrees : (k : ℕ) → k < level node → bitOf x k ≡ bitOf (getD values node 0) k
+  agrees : (k : ℕ) → k < level node → bit x k ≡ bit (getD values node 0) k
 
 module _ (values links : List ℕ) (from end : ℕ) (t : Tree values links from end) (x slot : ℕ) where
   spot-from : (m node d : ℕ) → Standing values links from end t x node d → ending values links x m node d ≡ Missing slot → Spot values links from end (t .level) x slot
@@ -64,8 +66,8 @@ module _ (values links values′ links′ : List ℕ) (from end : ℕ) (t : Tree
         (λ h _. ends-here values′ links′ x m node d (h ∙ sym (words node l)))
         (λ _ _ q. missing-not-here _ q)
         (λ n z q.
-        let c = t .below node (bitOf x d) a l (bit-small x d) z in
-        let k : getD links′ (slotOf node d x) 0 ≡ getD links (slotOf node d x) 0 = kept node (bitOf x d) a l (bit-small x d) z in
+        let c = t .below node (bit x d) a l (bit-small x d) z in
+        let k : getD links′ (slotOf node d x) 0 ≡ getD links (slotOf node d x) 0 = kept node (bit x d) a l (bit-small x d) z in
         goes-on values′ links′ x m node d (λ h. n (h ∙ words node l)) (λ h. z (sym k ∙ h))
         ∙ rw k (finds-still x m (getD links (slotOf node d x) 0) (d + 1) (omega (arith, c .later)) (c .inside) q))
         e
@@ -83,8 +85,8 @@ module _ (values links values′ links′ : List ℕ) (from end : ℕ) (t : Tree
         let g : getD links′ (slotOf node d x) 0 ≡ end = rw h w in
         goes-on values′ links′ x m node d (λ u. n (u ∙ words node l)) (λ u. omega arith) ∙ rw g (ends-at values′ links′ x m end (d + 1) (sym v)))
         (λ n z q.
-        let c = t .below node (bitOf x d) a l (bit-small x d) z in
-        let k : getD links′ (slotOf node d x) 0 ≡ getD links (slotOf node d x) 0 = kept node (bitOf x d) a l (bit-small x d) z in
+        let c = t .below node (bit x d) a l (bit-small x d) z in
+        let k : getD links′ (slotOf node d x) 0 ≡ getD links (slotOf node d x) 0 = kept node (bit x d) a l (bit-small x d) z in
         goes-on values′ links′ x m node d (λ h. n (h ∙ words node l)) (λ h. z (sym k ∙ h))
         ∙ rw k (finds-new x slot m (getD links (slotOf node d x) 0) (d + 1) (omega (arith, c .later)) (c .inside) v w q))
         e
@@ -107,12 +109,13 @@ module _ (values links values′ links′ : List ℕ) (from end : ℕ) (t : Tree
       -- The tree with one node more, which has no links, and hangs where a link is another than before.
       grown : level from ≡ 0 → ((b : ℕ) → b < 2 → getD links′ (2 * end + b) 0 ≡ 0)
           → ((p b : ℕ) → from ≤ p → p < end → b < 2 → (getD links′ (2 * p + b) 0 ≡ getD links (2 * p + b) 0) ⊎ Child values′ (end + 1) level p b (getD links′ (2 * p + b) 0))
-          → ending values′ links′ (getD values′ end 0) mostNodes from 0 ≡ Here
+          → ending values′ links′ (getD values′ end 0) mostNodes from 0 ≡ Here → getD values′ end 0 < 2 ^ 32
           → Tree values′ links′ from (end + 1)
-      grown top new hangs found =
+      grown top new hangs found small =
           record {
             level = level;
             top = top;
+            words = λ j a l. ⊎-elim (λ e. rw e small) (λ u. rw (words j u) (t .words j a u)) (eq-or-lt-of-le (at-most j l));
             below =
                 λ p b a l h z.
                 ⊎-elim (λ e. absurd (z (rw e (new b h))))
@@ -138,6 +141,7 @@ tree-same values links values′ links′ from end t words same =
     record {
       level = t .level;
       top = t .top;
+      words = λ j a l. rw (words j l) (t .words j a l);
       below =
           λ p b a l h z.
           let k : getD links′ (2 * p + b) 0 ≡ getD links (2 * p + b) 0 = same (2 * p + b) (omega arith) in
@@ -149,7 +153,7 @@ tree-same values links values′ links′ from end t words same =
     kept p b a l h z = same (2 * p + b) (omega arith)
 
 pub tree-none : (values links : List ℕ) (end : ℕ) → Tree values links end end
-tree-none values links end = record { level = λ _. 0; top = refl; below = λ p b a l. absurd (omega arith); all = λ j a l. absurd (omega arith) }
+tree-none values links end = record { level = λ _. 0; top = refl; words = λ j a l. absurd (omega arith); below = λ p b a l. absurd (omega arith); all = λ j a l. absurd (omega arith) }
 
 -- ---- A new word
 
@@ -166,12 +170,15 @@ module _ (links : List ℕ) (n : ℕ) (room : 2 * n + 1 < length links) where
   cleared-new (suc (suc b)) h = absurd (omega arith)
 
 -- The new word stands behind the others, and its node hangs where the search for it ended.
-module _ (values links : List ℕ) (from end x : ℕ) (t : Tree values links from end) (fits : end < length values) (room : 2 * end + 1 < length links) where
+module _ (values links : List ℕ) (from end x : ℕ) (t : Tree values links from end) (small : x < 2 ^ 32) (fits : end < length values) (room : 2 * end + 1 < length links) where
   words-below : (k : ℕ) → k < end → getD (set values end x) k 0 ≡ getD values k 0
   words-below k h = getD-set-other values end k x 0 (λ q. omega arith)
 
   word-new : getD (set values end x) end 0 ≡ x
   word-new = getD-set-same values end x 0 fits
+
+  small-new : getD (set values end x) end 0 < 2 ^ 32
+  small-new = rw word-new small
 
   links-cleared : (p b : ℕ) → p < end → b < 2 → getD (cleared links end) (2 * p + b) 0 ≡ getD links (2 * p + b) 0
   links-cleared p b l h = cleared-below links end room (2 * p + b) (omega arith)
@@ -179,14 +186,14 @@ module _ (values links : List ℕ) (from end x : ℕ) (t : Tree values links fro
   more-root : from ≡ end → Tree (set values end x) (cleared links end) from (end + 1)
   more-root e =
       grown values links (set values end x) (cleared links end) from end t words-below (λ p b a l h z. absurd (omega arith)) (λ _. 0) (λ k a l. absurd (omega arith)) refl
-      (cleared-new links end room) (λ p b a l h. absurd (omega arith)) (rw e (ends-at (set values end x) (cleared links end) (getD (set values end x) end 0) mostNodes end 0 refl))
+      (cleared-new links end room) (λ p b a l h. absurd (omega arith)) (rw e (ends-at (set values end x) (cleared links end) (getD (set values end x) end 0) mostNodes end 0 refl)) small-new
 
   module _ (some-node : from < end) where
     more-here : ending values links x mostNodes from 0 ≡ Here → Tree (set values end x) (cleared links end) from (end + 1)
     more-here e =
         grown values links (set values end x) (cleared links end) from end t words-below kept (t .level) (λ k a l. refl) (t .top)
         (cleared-new links end room) (λ p b a l h. inl (links-cleared p b l h))
-        (rw word-new (finds-still values links (set values end x) (cleared links end) from end t words-below kept x mostNodes from 0 (omega arith) some-node e))
+        (rw word-new (finds-still values links (set values end x) (cleared links end) from end t words-below kept x mostNodes from 0 (omega arith) some-node e)) small-new
       where
         kept : (p b : ℕ) → from ≤ p → p < end → b < 2 → (getD links (2 * p + b) 0 ≡ 0 → ⊥) → getD (cleared links end) (2 * p + b) 0 ≡ getD links (2 * p + b) 0
         kept p b a l h z = links-cleared p b l h
@@ -226,7 +233,7 @@ module _ (values links : List ℕ) (from end x : ℕ) (t : Tree values links fro
       unfolding links-after
       links-new b h = getD-set-other (cleared links end) slot (2 * end + b) end 0 (λ q. omega (arith, slot-before)) ∙ cleared-new links end room b h
 
-      new-child : Child (set values end x) (end + 1) level-more (spot .node) (bitOf x (t .level (spot .node))) end
+      new-child : Child (set values end x) (end + 1) level-more (spot .node) (bit x (t .level (spot .node))) end
       unfolding level-more
       new-child =
           let l : spot .node < end = spot .before in
@@ -236,7 +243,7 @@ module _ (values links : List ℕ) (from end x : ℕ) (t : Tree values links fro
             inside = omega arith;
             deeper = rw (eq-eqb end end refl) (ap (λ (n : ℕ). n + 1) (sym e));
             shares = λ k u. rw (word-new, words-below (spot .node) l) (spot .agrees k (rw e at u));
-            turns = rw (word-new) (ap (bitOf x) e);
+            turns = rw (word-new) (ap (bit x) e);
           }
 
       hangs : (p b : ℕ) → p < end → b < 2 → (o : Bool) → eqb (2 * p + b) slot ≡ o
@@ -244,7 +251,7 @@ module _ (values links : List ℕ) (from end x : ℕ) (t : Tree values links fro
       hangs p b l h true e =
           let q : 2 * p + b ≡ slot = eqb-true (2 * p + b) slot e in
           let i : p ≡ spot .node = omega (arith, spot .link, bit-small x (t .level (spot .node))) in
-          let j : b ≡ bitOf x (t .level (spot .node)) = omega (arith, spot .link, bit-small x (t .level (spot .node))) in
+          let j : b ≡ bit x (t .level (spot .node)) = omega (arith, spot .link, bit-small x (t .level (spot .node))) in
           inr (rw (q, link-set, i, j) new-child)
       hangs p b l h false e = inl (links-kept p b l h (eqb-false _ _ e))
 
@@ -252,7 +259,7 @@ module _ (values links : List ℕ) (from end x : ℕ) (t : Tree values links fro
       more-missing =
           grown values links (set values end x) links-after from end t words-below link-kept level-more (λ k a l. level-same k l) (level-same from some-node ∙ t .top)
           links-new (λ p b a l h. hangs p b l h (eqb (2 * p + b) slot) refl)
-          (rw word-new (finds-new values links (set values end x) links-after from end t words-below link-kept x slot mostNodes from 0 (omega arith) some-node word-new link-set missed))
+          (rw word-new (finds-new values links (set values end x) links-after from end t words-below link-kept x slot mostNodes from 0 (omega arith) some-node word-new link-set missed)) small-new
 
   pub tree-more : from ≤ end → Tree (set values end x) (hung links (placeIn values links from end x) end) from (end + 1)
   unfolding links-after
@@ -277,22 +284,7 @@ module _ (values links : List ℕ) (from end x : ℕ) (t : Tree values links fro
         getD-set-other (cleared links end) slot k end 0 (λ q. omega arith) ∙ plain)
         (eq-or-lt-of-le h)
 
--- ---- What is written
-
 pub length-hung : (links : List ℕ) (p : Place) (n : ℕ) → length (hung links p n) ≡ length links
 length-hung links Here n = simp length-set
 length-hung links Root n = simp length-set
 length-hung links (Missing slot) n = simp length-set
-
-pub slot-of-place : (p : Place) (slot : ℕ) → Linked p → p ≡ Missing slot → slot < 2048
-slot-of-place p slot h e = rw e at h
-
-module _ (links one two : List ℕ) (p : Place) (n : ℕ) (first : one ≡ set links (2 * n) 0) (second : two ≡ set one (2 * n + 1) 0) where
-  pub hung-here : p ≡ Here → two ≡ hung links p n
-  hung-here e = rw (e, second, first)
-
-  pub hung-root : p ≡ Root → two ≡ hung links p n
-  hung-root e = rw (e, second, first)
-
-  pub hung-missing : (slot : ℕ) (l : List ℕ) → p ≡ Missing slot → l ≡ set two slot n → l ≡ hung links p n
-  hung-missing slot l e q = rw (e, q, second, first)

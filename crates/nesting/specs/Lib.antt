@@ -1,2 +1,3 @@
-pub mod Tree
-pub mod Held
+pub mod Search
+pub mod Arrays
+pub mod Inner

@@ -2,22 +2,20 @@
 // SWITCH from where it starts, and are a tree.
 ghost use mathlib.Core.Path.{_≡_};
 ghost use mathlib.Core.Bool.{true};
-ghost use mathlib.Core.List.{List, [], _∷_};
-ghost use Prim.Native.Nat.{ℕ, _+_, _<_, _≤_};
-ghost use lib.ListN.{drop};
-ghost use Rattle.format.specs.Kinds.{within};
-ghost use Rattle.blocks.specs.Control.{opOf, CASE};
-ghost use Rattle.blocks.specs.Nesting.{rule, nestingRule, switchRule, opens, openAfter};
-ghost use Rattle.nesting.specs.Held.{openOf, blocksOf, topCode, topStart, topValues, someCode, rulingOf, SoundBlocks, Trees};
+ghost use Prim.Native.Nat.{_<_};
+ghost use lib.ListN.{getD};
+ghost use Rattle.blocks.specs.Control.{opOf};
+ghost use Rattle.blocks.specs.Nesting.{opens};
+ghost use Rattle.nesting.specs.Arrays.{noneOpen, innermostIs, someIs, innermostStart, nestingKept, switchKept, nestingRefusal, leaving, pushed, popped, recoded, labelled, leftAfter, nestOf};
 
 mod tree;
 
 // The open blocks, the outermost first: a code each, and where its words start. `held` is where the words end.
 pub struct Blocks {
     pub codes: [u8; 16],
-    pub starts: [usize; 16],
-    pub depth: usize,
-    pub held: usize,
+    pub starts: [u16; 16],
+    pub depth: u8,
+    pub held: u16,
 }
 
 // What the rules say of an instruction: the number of the refusal, or 0 and the blocks that are open after it.
@@ -36,10 +34,12 @@ const SWITCH: u8 = 3;
 
 const DEFAULTED: u8 = 4;
 
-const MOST_OPEN: usize = 16;
+const MOST_OPEN: u8 = 16;
+
+const MOST_WORDS: u16 = 1024;
 
 pub fn none_open() -> Blocks
-    ensures { λ r. ⌜ (r .depth ≡ 0) × (r .held ≡ 0) ⌝ }
+    ensures { λ r. ⌜ r ≡ noneOpen ⌝ }
 {
     Blocks {
         codes: [0; 16],
@@ -49,40 +49,51 @@ pub fn none_open() -> Blocks
     }
 }
 
+// A block's code, the outermost block having the number 0, and 0 outside of the array.
+fn code_at(b: Blocks, n: u8) -> u8
+    ensures { λ r. ⌜ r ≡ getD (b .codes) n 0 ⌝ }
+{
+    if MOST_OPEN <= n {
+        return 0;
+    }
+    b.codes[n as usize]
+}
+
 // Whether the code of the innermost block is from lo to hi.
 fn innermost_is(b: Blocks, lo: u8, hi: u8) -> bool
-    requires { ⌜ SoundBlocks b ⌝ }
-    ensures { λ r. ⌜ r ≡ within lo hi (topCode (b .codes) (b .depth)) ⌝ }
+    ensures { λ r. ⌜ r ≡ innermostIs lo hi b ⌝ }
 {
     let n = b.depth;
     if n == 0 {
         return (lo <= 5) & (5 <= hi);
     }
-    let code = b.codes[n - 1];
+    let code = code_at(b, n - 1);
     (lo <= code) & (code <= hi)
 }
 
 // Where the words of the innermost block start.
-fn innermost_start(b: Blocks) -> usize
-    requires { ⌜ SoundBlocks b ⌝ }
-    ensures { λ r. ⌜ (r ≡ topStart (b .starts) (b .depth) (b .held)) × (r ≤ b .held) ⌝ }
+fn innermost_start(b: Blocks) -> u16
+    ensures { λ r. ⌜ r ≡ innermostStart b ⌝ }
 {
     let n = b.depth;
     if n == 0 {
         return b.held;
     }
-    b.starts[n - 1]
+    if MOST_OPEN < n {
+        return 0;
+    }
+    let last = (n - 1) as usize;
+    b.starts[last]
 }
 
 // Whether the code of some block is from lo to hi.
 fn some_is(b: Blocks, lo: u8, hi: u8) -> bool
-    requires { ⌜ SoundBlocks b ⌝ }
-    ensures { λ r. ⌜ r ≡ someCode lo hi (b .codes) (b .depth) ⌝ }
+    ensures { λ r. ⌜ r ≡ someIs lo hi b ⌝ }
 {
     let mut n = b.depth;
     while n != 0 {
         n -= 1;
-        let code = b.codes[n];
+        let code = code_at(b, n);
         if (lo <= code) & (code <= hi) {
             return true;
         }
@@ -92,8 +103,7 @@ fn some_is(b: Blocks, lo: u8, hi: u8) -> bool
 
 // Whether an instruction of a kind is well nested: else 10.
 fn nesting_kept(b: Blocks, kind: u8) -> bool
-    requires { ⌜ SoundBlocks b ⌝ }
-    ensures { λ r. ⌜ ((values : List ℕ) → r ≡ nestingRule (opOf kind) (blocksOf b values)) ⌝ }
+    ensures { λ r. ⌜ r ≡ nestingKept (opOf kind) b ⌝ }
 {
     match kind {
         0x81 => innermost_is(b, UIF, UIF),
@@ -111,16 +121,15 @@ fn nesting_kept(b: Blocks, kind: u8) -> bool
 
 // Whether an instruction of a kind keeps the rules of a SWITCH: else 11. For a CASE x is its word.
 fn switch_kept(b: Blocks, values: &[u32; 1024], links: &[u16; 2048], kind: u8, x: u32) -> bool
-    requires { ⌜ SoundBlocks b × (b .held ≤ 1024) × Trees b (now values) (now links) ⌝ }
-    ensures { λ r. ⌜ r ≡ switchRule (opOf kind) x (blocksOf b (now (values .entry))) ⌝ }
+    ensures { λ r. ⌜ r ≡ switchKept (opOf kind) x b (now (values .entry)) (now (links .entry)) ⌝ }
 {
     let start = innermost_start(b);
-    let n = b.held - start;
+    let wordless = b.held <= start;
     match kind {
         0x87 => innermost_is(b, SWITCH, SWITCH),
-        0x88 => innermost_is(b, SWITCH, DEFAULTED) & (n != 0),
+        0x88 => innermost_is(b, SWITCH, DEFAULTED) & !wordless,
         0x92 => innermost_is(b, SWITCH, SWITCH) & !tree::has_value(values, links, start, b.held, x),
-        _ => !(innermost_is(b, SWITCH, SWITCH) & (n == 0)),
+        _ => !(innermost_is(b, SWITCH, SWITCH) & wordless),
     }
 }
 
@@ -131,54 +140,77 @@ fn opens_block(kind: u8) -> bool
     (kind == 0x90) | (kind == 0x83) | (kind == 0x91)
 }
 
+// The lowest of 10, 11 and 12 that applies to an instruction of a kind, 0 for none; for a CASE x is its word.
+fn nesting_refusal(b: Blocks, values: &[u32; 1024], links: &[u16; 2048], kind: u8, x: u32) -> u8
+    ensures { λ r. ⌜ r ≡ nestingRefusal b (now (values .entry)) (now (links .entry)) kind x ⌝ }
+{
+    if !nesting_kept(b, kind) {
+        return 10;
+    }
+    if !switch_kept(b, values, links, kind, x) {
+        return 11;
+    }
+    if opens_block(kind) & (MOST_OPEN <= b.depth) {
+        return 12;
+    }
+    0
+}
+
 // The blocks with one more inside them, which has no words.
 fn pushed(b: Blocks, code: u8) -> Blocks
-    requires { ⌜ SoundBlocks b × (b .depth < 16) × (code < 5) ⌝ }
-    ensures { λ r. ⌜ ((values : List ℕ) → blocksOf r values ≡ openOf code [] ∷ blocksOf b values) × SoundBlocks r × (r .held ≤ b .held) × ((values : List ℕ) (links : List ℕ) → Trees b values links → Trees r values links) ⌝ }
+    requires { ⌜ b .depth < 16 ⌝ }
+    ensures { λ r. ⌜ r ≡ pushed code b ⌝ }
 {
-    let n = b.depth;
+    let n = b.depth as usize;
     let mut c = b;
     c.codes[n] = code;
     c.starts[n] = b.held;
-    c.depth = n + 1;
+    c.depth = b.depth + 1;
     c
 }
 
 // The blocks without the innermost, and without its words.
 fn popped(b: Blocks) -> Blocks
-    requires { ⌜ SoundBlocks b ⌝ }
-    ensures { λ r. ⌜ ((values : List ℕ) → blocksOf r values ≡ drop 1 (blocksOf b values)) × SoundBlocks r × (r .held ≤ b .held) × ((values : List ℕ) (links : List ℕ) → Trees b values links → Trees r values links) ⌝ }
+    ensures { λ r. ⌜ r ≡ popped b ⌝ }
 {
     let n = b.depth;
     let mut c = b;
     if n == 0 {
         return c;
     }
-    c.held = b.starts[n - 1];
+    c.held = innermost_start(b);
     c.depth = n - 1;
     c
 }
 
 // The blocks with another code for the innermost.
 fn recoded(b: Blocks, code: u8) -> Blocks
-    requires { ⌜ SoundBlocks b × (b .depth ≡ 0 → ⊥) × (code < 5) ⌝ }
-    ensures { λ r. ⌜ ((values : List ℕ) → blocksOf r values ≡ openOf code (topValues b values) ∷ drop 1 (blocksOf b values)) × SoundBlocks r × (r .held ≤ b .held) × ((values : List ℕ) (links : List ℕ) → Trees b values links → Trees r values links) ⌝ }
+    ensures { λ r. ⌜ r ≡ recoded code b ⌝ }
 {
     let n = b.depth;
     let mut c = b;
-    c.codes[n - 1] = code;
+    if n == 0 {
+        return c;
+    }
+    if MOST_OPEN < n {
+        return c;
+    }
+    let last = (n - 1) as usize;
+    c.codes[last] = code;
     c
 }
 
-// The blocks with one word more for the innermost, which is a SWITCH.
+// The blocks with one word more for the innermost.
 fn labelled(b: Blocks, values: &mut [u32; 1024], links: &mut [u16; 2048], x: u32) -> Blocks
-    requires { ⌜ SoundBlocks b × (b .held < 1024) × (within 3 4 (topCode (b .codes) (b .depth)) ≡ true) × Trees b (now values) (now links) ⌝ }
-    ensures { λ r. ⌜ (blocksOf r (now (values .exit)) ≡ openAfter CASE x (blocksOf b (now (values .entry)))) × SoundBlocks r × (r .held ≤ b .held + 1) × Trees r (now (values .exit)) (now (links .exit)) ⌝ }
+    ensures { λ r. ⌜ leaving 0 r (now (values .exit)) (now (links .exit)) ≡ labelled x b (now (values .entry)) (now (links .entry)) ⌝ }
 {
     let n = b.held;
+    if MOST_WORDS <= n {
+        return b;
+    }
     let place = tree::place_of(values, links, innermost_start(b), n, x);
     tree::hang(links, place, n);
-    values[n] = x;
+    values[n as usize] = x;
     let mut c = b;
     c.held = n + 1;
     c
@@ -192,8 +224,8 @@ fn open_after(
     kind: u8,
     x: u32,
 ) -> Blocks
-    requires { ⌜ SoundBlocks b × (b .held < 1024) × (nestingRule (opOf kind) (blocksOf b (now values)) ≡ true) × (opens (opOf kind) ≡ true → b .depth < 16) × Trees b (now values) (now links) ⌝ }
-    ensures { λ r. ⌜ (blocksOf r (now (values .exit)) ≡ openAfter (opOf kind) x (blocksOf b (now (values .entry)))) × SoundBlocks r × (r .held ≤ b .held + 1) × Trees r (now (values .exit)) (now (links .exit)) ⌝ }
+    requires { ⌜ (opens (opOf kind) ≡ true → b .depth < 16) ⌝ }
+    ensures { λ r. ⌜ leaving 0 r (now (values .exit)) (now (links .exit)) ≡ leftAfter (opOf kind) x b (now (values .entry)) (now (links .entry)) ⌝ }
 {
     match kind {
         0x81 => recoded(b, ELSE),
@@ -217,26 +249,11 @@ pub fn nest(
     kind: u8,
     x: u32,
 ) -> Nested
-    requires { ⌜ SoundBlocks b × (b .held < 1024) × Trees b (now values) (now links) ⌝ }
-    ensures { λ r. ⌜ (rulingOf r (now (values .exit)) ≡ rule (opOf kind) x (blocksOf b (now (values .entry)))) × SoundBlocks (r .blocks) × (r .blocks .held ≤ b .held + 1) × Trees (r .blocks) (now (values .exit)) (now (links .exit)) × ((r .refusal ≡ 0 → ⊥) → r .blocks ≡ b) ⌝ }
+    ensures { λ r. ⌜ record { nested = r; values = now (values .exit); links = now (links .exit) } ≡ nestOf b (now (values .entry)) (now (links .entry)) kind x ⌝ }
 {
-    if !nesting_kept(b, kind) {
-        return Nested {
-            refusal: 10,
-            blocks: b,
-        };
-    }
-    if !switch_kept(b, values, links, kind, x) {
-        return Nested {
-            refusal: 11,
-            blocks: b,
-        };
-    }
-    if opens_block(kind) & (MOST_OPEN <= b.depth) {
-        return Nested {
-            refusal: 12,
-            blocks: b,
-        };
+    let refusal = nesting_refusal(b, values, links, kind, x);
+    if refusal != 0 {
+        return Nested { refusal, blocks: b };
     }
     Nested {
         refusal: 0,

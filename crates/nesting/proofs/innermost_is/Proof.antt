@@ -1,6 +1,6 @@
 -- The code of the last block, or that of none.
 use borrow.Author.Needs.{needs}
-use Rattle.nesting.proofs.Stack.{no-code, top-code}
+use Rattle.nesting.proofs.Steps.{no-code, top-code}
 use Rattle.nesting.proofs.innermost_is.Statement.{statement}
 use Rattle.nesting.proofs.innermost_is.Tie as tie
 
@@ -9,5 +9,6 @@ innermost-is-spec =
     tie.close
     (tie.spec
     (λ c. search (needs, no-code))
-    (search needs) (search needs)
+    (search needs)
+    (λ c κs. search needs)
     (λ c. search (needs, top-code)))

@@ -1,6 +1,6 @@
 -- Three kinds open a block.
 use borrow.Author.Needs.{needs}
-use Rattle.nesting.proofs.Stack.{opens-by}
+use Rattle.nesting.proofs.Steps.{opens-by}
 use Rattle.nesting.proofs.opens_block.Statement.{statement}
 use Rattle.nesting.proofs.opens_block.Tie as tie
 

@@ -1,6 +1,6 @@
--- The innermost block keeps its words.
+-- A block past the array has no code to change.
 use borrow.Author.Needs.{needs}
-use Rattle.nesting.proofs.Opening.{recoded-blocks, recoded-stacked}
+use Rattle.nesting.proofs.Steps.{recoded-none, recoded-outside, recoded-top}
 use Rattle.nesting.proofs.recoded.Statement.{statement}
 use Rattle.nesting.proofs.recoded.Tie as tie
 
@@ -8,5 +8,7 @@ pub recoded-spec : {M : Type 1} → statement M
 recoded-spec =
     tie.close
     (tie.spec
-    (search needs) (search needs)
-    (λ c. ((λ values. search (needs, recoded-blocks)), search (needs, recoded-stacked), search needs, (λ values links t. search needs))))
+    (λ c. search (needs, recoded-none))
+    (λ c. search (needs, recoded-outside))
+    (search needs) (search needs) (search needs)
+    (λ c. search (needs, recoded-top)))

@@ -1,7 +1,6 @@
--- Each arm asks what the rule asks of the innermost block, by its code and its words.
+-- Each arm asks what the definition asks for its kind.
 use borrow.Author.Needs.{needs}
-use Rattle.nesting.proofs.Stack.{default-kept, endswitch-kept, case-kept, others-kept}
-use Rattle.nesting.proofs.Searched.{top-tree}
+use Rattle.nesting.proofs.Steps.{default-kept, endswitch-kept, case-kept, others-kept}
 use Rattle.nesting.proofs.switch_kept.Statement.{statement}
 use Rattle.nesting.proofs.switch_kept.Tie as tie
 
@@ -10,11 +9,10 @@ switch-kept-spec =
     tie.close
     (tie.spec
     (λ c κs. search needs)
-    (search needs)
     (λ c κs. search needs)
     (λ c κs. search needs)
     (λ c κs. search needs)
-    (λ c κs. search (needs, top-tree))
+    (λ c κs. search needs)
     (λ c κs. search needs)
     (λ c. search (needs, default-kept))
     (λ c. search (needs, endswitch-kept))

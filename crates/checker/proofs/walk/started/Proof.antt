@@ -1,7 +1,8 @@
 -- Nothing is declared, counted or open.
 use borrow.Author.Needs.{needs}
+use Rattle.nesting.proofs.Rules.{none-trees}
 use Rattle.checker.specs.Held.{seen}
-use Rattle.checker.proofs.Taking.{nothing-seen, nothing-counted, nothing-treed}
+use Rattle.checker.proofs.Taking.{nothing-seen, nothing-counted}
 use Rattle.checker.proofs.walk.started.Statement.{statement}
 use Rattle.checker.proofs.walk.started.Tie as tie
 
@@ -11,4 +12,4 @@ started-spec =
     tie.close
     (tie.spec
     (search needs) (search needs)
-    (λ c. ((λ words values. search (needs, nothing-seen, c .before .unseen .ensures .0)), search (needs, nothing-counted), search needs, (λ values links v l. search (needs, nothing-treed)))))
+    (λ c. ((λ words values. search (needs, nothing-seen, c .before .unseen .ensures .0)), search (needs, nothing-counted), search needs, (λ values links v l. search (needs, none-trees)))))

@@ -1,6 +1,6 @@
 -- The links are set one after the other, as in the definition.
 use borrow.Author.Needs.{needs}
-use Rattle.nesting.proofs.Trees.{slot-of-place, hung-here, hung-root, hung-missing}
+use Rattle.nesting.proofs.Steps.{hung-here, hung-root, hung-missing}
 use Rattle.nesting.proofs.tree.hang.Statement.{statement}
 use Rattle.nesting.proofs.tree.hang.Tie as tie
 
@@ -10,10 +10,10 @@ hang-spec =
     (tie.spec
     (search needs)
     (λ c κs. search needs)
-    (search needs) (search needs)
+    (search needs)
     (λ c κs. search needs)
     (search needs) (search needs) (search needs)
-    (λ c κs. (search (needs, slot-of-place), search needs))
+    (λ c κs. search needs)
     (λ c. search (needs, hung-here))
     (λ c. search (needs, hung-root))
     (λ c. search (needs, hung-missing)))

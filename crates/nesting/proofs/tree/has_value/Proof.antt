@@ -1,6 +1,6 @@
 -- The word is there where its node is found.
 use borrow.Author.Needs.{needs}
-use Rattle.nesting.proofs.Search.{says-here, says-root, says-missing}
+use Rattle.nesting.proofs.Steps.{says-here, says-root, says-missing}
 use Rattle.nesting.proofs.tree.has_value.Statement.{statement}
 use Rattle.nesting.proofs.tree.has_value.Tie as tie
 

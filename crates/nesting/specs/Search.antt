@@ -1,21 +1,19 @@
--- The words of a SWITCH's CASEs as a digital search tree, whose nodes are the words' places. Each node has two links, which
--- hold the place of a later word or 0, and a node of depth d parts the words below it by their bit d.
+-- The search for a word among those of a SWITCH's CASEs, a digital search tree. A word's node is its place among the words, the
+-- first is the root. Each node has two links, which hold the place of a later word or 0, and a node of depth d parts the words
+-- below it by their bit d.
 -- Assumes nothing.
-use Prim.Native.Nat.{ℕ, zero, suc, _+_, _*_, _/_, _%_, _^_, _<_, _≤_}
-use mathlib.Core.Path.{_≡_}
+use Prim.Native.Nat.{ℕ, zero, suc, _+_, _*_}
 use mathlib.Core.Bool.{Bool, true, false, cond}
 use mathlib.Core.List.{List}
 use lib.Dec.{eqb}
 use lib.ListN.{getD, set}
+use Rattle.words.specs.Word.{bit}
 use Rattle.nesting.specs.declared.tree.Place.{Place}
 use Rattle.nesting.specs.declared.tree.Place.the-variants.{Here, Root, Missing}
 
-abbrev pub bitOf : ℕ → ℕ → ℕ
-bitOf x d = x / 2 ^ d % 2
-
 -- The link of a node of depth d below which x lies where the node holds another word.
 abbrev pub slotOf : ℕ → ℕ → ℕ → ℕ
-slotOf node d x = 2 * node + bitOf x d
+slotOf node d x = 2 * node + bit x d
 
 -- Where the search for x ends that stands at a node of depth d and looks at no more than m nodes.
 unfoldable pub ending : List ℕ → List ℕ → ℕ → ℕ → ℕ → ℕ → Place
@@ -46,24 +44,3 @@ abbrev pub hung : List ℕ → Place → ℕ → List ℕ
 hung links Here node = cleared links node
 hung links Root node = cleared links node
 hung links (Missing slot) node = set (cleared links node) slot node
-
--- Where a place is a link, it is one of 2,048.
-abbrev pub Linked : Place → Type 0
-Linked Here = Unit {0}
-Linked Root = Unit {0}
-Linked (Missing slot) = slot < 2048
-
--- Node c hangs from link b of node p: it came later, lies one deeper, has p's bits above p's depth, and b as its next.
-pub record Child (values : List ℕ) (end : ℕ) (level : ℕ → ℕ) (p b c : ℕ) : Type 0 where
-  pub later : p < c
-  pub inside : c < end
-  pub deeper : level c ≡ level p + 1
-  pub shares : (k : ℕ) → k < level p → bitOf (getD values c 0) k ≡ bitOf (getD values p 0) k
-  pub turns : bitOf (getD values c 0) (level p) ≡ b
-
--- The words from a place to `end` are a tree, each node of which has its depth, and every word of which is found.
-pub record Tree (values links : List ℕ) (from end : ℕ) : Type 0 where
-  pub level : ℕ → ℕ
-  pub top : level from ≡ 0
-  pub below : (p b : ℕ) → from ≤ p → p < end → b < 2 → (getD links (2 * p + b) 0 ≡ 0 → ⊥) → Child values end level p b (getD links (2 * p + b) 0)
-  pub all : (j : ℕ) → from ≤ j → j < end → ending values links (getD values j 0) mostNodes from 0 ≡ Here
