@@ -10,34 +10,47 @@ use lib.Dec.{eqb, ltb}
 use Rattle.blocks.specs.Table.{rowWords}
 use Rattle.checker.specs.declared.Checked.{Checked}
 use Rattle.checker.specs.declared.Verdict.the-variants.{Accepted, Refused}
-use Rattle.checker.specs.Check.{Outcome, accepted, refused, checkOf, programSeen, outcome, concluded}
+use Rattle.checker.specs.Check.{Outcome, accepted, refused, checkOf, programSeen, wordsAfter, examinedAs, examined}
 use Rattle.checker.specs.Findings.{Seen}
+use Rattle.checker.specs.Held.{concluded}
+use Rattle.checker.proofs.Examining.{outcome-is, words-are}
 use Rattle.admission.specs.declared.Sizes.{Sizes}
 use Rattle.admission.specs.Admission.{workShort, lentRefusal, admitted, admissionOf}
 
 -- ---- What the function answers
 
-module _ (file words : List ℕ) (c : Checked) (lent : Sizes) (said : outcome c words ≡ checkOf file) where
-  abbrev seen : Seen
-  seen = programSeen (c .program) words []
+-- What `admit` promises: after a refusal for what is lent the words are what the check left.
+abbrev Answers : Checked → List ℕ → List ℕ → List ℕ → Sizes → Type 0
+Answers c words before file lent = examinedAs c words ≡ examined (admissionOf file lent) (wordsAfter (checkOf file) before)
 
-  pub check-refuses : (number place : ℕ) → c .verdict ≡ Refused number place → outcome c words ≡ admissionOf file lent
+module _ (file words before : List ℕ) (c : Checked) (lent : Sizes) (said : examinedAs c words ≡ examined (checkOf file) before) where
+  by-check : (o : Outcome) → checkOf file ≡ o → examined o before ≡ examined (admitted o lent) (wordsAfter o before) → Answers c words before file lent
   unfolding admissionOf
-  check-refuses number place e =
-      let r : checkOf file ≡ refused number place = sym said ∙ ap (λ v. concluded v seen) e in
-      rw (r, e)
+  by-check o e same = said ∙ rw e same
+
+  concludes : (o : Outcome) → concluded (c .verdict) (programSeen (c .program) words []) ≡ o → checkOf file ≡ o
+  concludes o e = sym (outcome-is c words before (checkOf file) said) ∙ e
+
+  pub check-refuses : (number place : ℕ) → c .verdict ≡ Refused number place → Answers c words before file lent
+  check-refuses number place e = by-check (refused number place) (concludes (refused number place) (rw e)) refl
 
   module _ (n : ℕ) (e : c .verdict ≡ Accepted n) (due : ℕ) (due-is : due ≡ lentRefusal (programSeen (c .program) [] []) lent) where
+    abbrev seen : Seen
+    seen = programSeen (c .program) words []
+
     is-accepted : checkOf file ≡ accepted seen
-    is-accepted = sym said ∙ ap (λ v. concluded v seen) e
+    is-accepted = concludes (accepted seen) (rw e)
 
-    pub lent-refuses : (due ≡ 0 → ⊥) → outcome (record { verdict = Refused due 0; program = c .program }) words ≡ admissionOf file lent
+    pub lent-refuses : (r : Checked) → (due ≡ 0 → ⊥) → examinedAs r words ≡ examined (refused due 0) words → Answers r words before file lent
     unfolding admissionOf lentRefusal
-    lent-refuses h = rw (is-accepted, ← due-is, ne-eqb due 0 h)
+    lent-refuses r h is =
+        let due-so : refused due 0 ≡ admissionOf file lent = rw (is-accepted, ← due-is, ne-eqb due 0 h) in
+        is ∙ ap (examined (refused due 0)) (words-are c words before (checkOf file) said)
+        ∙ ap (λ (o : Outcome). examined o (wordsAfter (checkOf file) before)) due-so
 
-    pub admits : due ≡ 0 → outcome c words ≡ admissionOf file lent
-    unfolding admissionOf lentRefusal
-    admits h = rw (is-accepted, e, ← due-is, h)
+    pub admits : due ≡ 0 → Answers c words before file lent
+    unfolding lentRefusal
+    admits h = by-check (accepted seen) is-accepted (rw (← due-is, h))
 
 -- ---- What an admitted program says
 

@@ -4,11 +4,12 @@ use checker::Checked;
 use checker::Verdict;
 use checker::examine;
 use checker::program::Program;
+use checker::refused;
 use format::files::REGISTER_WORDS;
 use format::refusals;
 ghost use mathlib.Core.Path.{_≡_};
 ghost use mathlib.Core.List.{[]};
-ghost use Rattle.checker.specs.Check.{checkOf, programSeen, outcome, wordsAfter};
+ghost use Rattle.checker.specs.Check.{checkOf, programSeen, wordsAfter, examinedAs, examined};
 ghost use Rattle.admission.specs.Admission.{lentRefusal, admissionOf};
 
 const MOST_MEMORY_WORDS: usize = 16384;
@@ -43,8 +44,7 @@ fn refusal(program: Program, sizes: Sizes) -> u8
 
 // What the check says of a file, and the refusal for what is lent where it is accepted. The immediates' words are the check's.
 pub fn admit(file: &[u8], sizes: Sizes, immediates: &mut [u32; 1024]) -> Checked
-    ensures admitted { λ r. ⌜ outcome r (now (immediates .exit)) ≡ admissionOf (now (file .entry)) sizes ⌝ }
-    ensures words { λ r. ⌜ now (immediates .exit) ≡ wordsAfter (checkOf (now (file .entry))) (now (immediates .entry)) ⌝ }
+    ensures { λ r. ⌜ examinedAs r (now (immediates .exit)) ≡ examined (admissionOf (now (file .entry)) sizes) (wordsAfter (checkOf (now (file .entry))) (now (immediates .entry))) ⌝ }
 {
     let checked = examine(file, immediates);
     let verdict = checked.verdict;
@@ -56,10 +56,7 @@ pub fn admit(file: &[u8], sizes: Sizes, immediates: &mut [u32; 1024]) -> Checked
             if number == 0 {
                 return checked;
             }
-            Checked {
-                verdict: Verdict::Refused(number, 0),
-                program,
-            }
+            refused(number, 0)
         }
     }
 }

@@ -2,6 +2,7 @@ pub mod Records
 pub mod Keeping
 pub mod Taking
 pub mod Walking
+pub mod Examining
 pub mod Followed
 pub mod Cases
 pub mod Accepted

@@ -2,11 +2,11 @@
 -- Assumes nothing.
 use mathlib.Core.Path.{_≡_, refl, sym, ap, _∙_, subst}
 use mathlib.Core.Bool.{Bool, true, false, cond, not}
-use mathlib.Core.List.{List, [], _∷_, _++_}
-use Prim.Native.Nat.{ℕ, zero, suc, _+_, _-_, _*_, _<_, _≤_}
+use mathlib.Core.List.{List, [], _∷_}
+use Prim.Native.Nat.{ℕ, zero, suc, _+_, _-_, _<_, _≤_}
 use native.Mathlib.Omega.{arith}
 use lib.Dec.{eqb, leb, ltb, eqb·suc-zero}
-use lib.ListN.{length, getD, take, replicate, take-append-drop}
+use lib.ListN.{length, getD}
 use borrow.Author.Tests.{lt-ltb, le-ltb, leb-false, eq-eqb, ne-eqb, eqb-true, eqb-false, not-false}
 use Rattle.format.specs.Kinds.{lengthOf}
 use Rattle.format.specs.Records.{longest, sizeAt}
@@ -18,10 +18,9 @@ use Rattle.blocks.specs.Nesting as nesting
 use Rattle.registers.specs.Rules.{operandRules}
 use Rattle.registers.specs.Found.{operandsFound}
 use Rattle.checker.specs.Findings.{Seen, nothing, Finding, taken, due, nested, withInstruction, declarationFinding, immediateFinding, instructionFinding, recordFinding}
-use Rattle.checker.specs.Check.{Outcome, accepted, refused, onward, walk, checkOf, breaks, told, toldOf, programSeen, concluded, outcome, wordsAfter}
+use Rattle.checker.specs.Check.{accepted, refused, onward, walk, checkOf, breaks, told, toldOf, programSeen}
 use Rattle.nesting.specs.Inner.Held.{blocksOf}
-use Rattle.checker.specs.Held.{Padded, seen, endOf, wayAfter, Tells, Turned}
-use Rattle.checker.specs.declared.Checked.{Checked}
+use Rattle.checker.specs.Held.{concluded, seen, endOf, wayAfter, Tells, Turned}
 use Rattle.checker.specs.declared.Verdict.{Verdict}
 use Rattle.checker.specs.declared.Verdict.the-variants.{Accepted, Refused}
 use Rattle.checker.specs.declared.program.Program.{Program}
@@ -29,7 +28,6 @@ use Rattle.checker.specs.declared.walk.State.{State}
 use Rattle.checker.specs.declared.walk.Turn.{Turn}
 use Rattle.checker.specs.declared.walk.Way.{Way}
 use Rattle.checker.specs.declared.walk.Way.the-variants.{On, Ended}
-use Rattle.checker.proofs.Keeping.{count-words}
 
 -- ---- A record that is taken
 
@@ -246,24 +244,3 @@ module _ (file : List ℕ) (at : ℕ) (s : Seen) (going : Going file at s) where
         -- Less of the file is left.
         pub walk-less : length file - (at + size) < length file - at
         walk-less = let w = turned .whole e in omega arith
-
--- ---- The lent words
-
-module _ (r : Checked) (words old file : List ℕ) (found : outcome r words ≡ checkOf file) where
-  pub lent-accepted : (n : ℕ) → r .verdict ≡ Accepted n → Padded (r .program .immediates) words → r .program .immediates ≤ 256 → words ≡ wordsAfter (checkOf file) old
-  lent-accepted n e padded few =
-      let k : length (take (4 * r .program .immediates) words) ≡ 4 * r .program .immediates = count-words words (r .program .immediates) few padded in
-      let f : accepted (programSeen (r .program) words []) ≡ checkOf file = rw e at found in
-      sym (take-append-drop (4 * r .program .immediates) words)
-      ∙ ap (λ (l : List ℕ). take (4 * r .program .immediates) words ++ l) (padded .rest ∙ ap (λ (m : ℕ). replicate (1024 - m) 0) (sym k))
-      ∙ ap (λ (o : Outcome). wordsAfter o old) f
-
-  module _ (number place : ℕ) (e : r .verdict ≡ Refused number place) where
-    refusal : refused number place ≡ checkOf file
-    refusal = rw e at found
-
-    pub lent-refused : old ≡ wordsAfter (checkOf file) old
-    lent-refused = ap (λ (o : Outcome). wordsAfter o old) refusal
-
-    pub found-refused : outcome r old ≡ checkOf file
-    found-refused = rw e refusal

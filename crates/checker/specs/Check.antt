@@ -69,16 +69,35 @@ programSeen p words blocks =
       blocks = blocks;
     }
 
-abbrev pub concluded : Verdict → Seen → Outcome
-concluded (Accepted instructions) s = accepted s
-concluded (Refused number place) s = refused number place
-
--- At END no block is open.
-abbrev pub outcome : Checked → List ℕ → Outcome
-outcome c words = concluded (c .verdict) (programSeen (c .program) words [])
-
 -- What the 1,024 lent words hold after the check: where the program is accepted the immediates' words in order, and 0 after
 -- them, and what they held before otherwise.
 abbrev pub wordsAfter : Outcome → List ℕ → List ℕ
 wordsAfter (accepted s) words = s .immediates ++ replicate (1024 - length (s .immediates)) 0
 wordsAfter (refused number place) words = words
+
+-- What was seen of a program that is accepted; nothing of one that is refused.
+abbrev pub seenOf : Outcome → Seen
+seenOf (accepted s) = s
+seenOf (refused number place) = nothing
+
+-- What `examine` answers, with the words that it is lent: document 01's answer, what was seen of the program, how many of the words
+-- are its immediates', and the words.
+pub record Examined : Type 0 where
+  pub answer : Told
+  pub program : Seen
+  pub given : ℕ
+  pub words : List ℕ
+
+-- At END no block is open.
+abbrev pub examinedAs : Checked → List ℕ → Examined
+examinedAs c words =
+    record {
+      answer = told (c .verdict);
+      program = programSeen (c .program) words [];
+      given = 4 * c .program .immediates;
+      words = words;
+    }
+
+abbrev pub examined : Outcome → List ℕ → Examined
+examined o words =
+    record { answer = toldOf o; program = seenOf o; given = length (seenOf o .immediates); words = wordsAfter o words }

@@ -13,7 +13,8 @@ use Rattle.registers.specs.Sets.{isIn}
 use Rattle.registers.specs.Rules.{operandRules}
 use Rattle.registers.specs.Found.{operandsFound}
 use Rattle.checker.specs.Findings.{Seen, Finding, taken, due, mostImmediates, recordFinding}
-use Rattle.checker.specs.Check.{Outcome, END, onward, programSeen, concluded}
+use Rattle.checker.specs.Check.{Outcome, accepted, refused, END, onward, programSeen}
+use Rattle.checker.specs.declared.Checked.{Checked}
 use Rattle.checker.specs.declared.Verdict.{Verdict}
 use Rattle.checker.specs.declared.Verdict.the-variants.{Accepted, Refused}
 use Rattle.nesting.specs.Inner.Held.{blocksOf, SoundBlocks}
@@ -24,6 +25,14 @@ use Rattle.checker.specs.declared.walk.Taken.{Taken}
 use Rattle.checker.specs.declared.walk.Turn.{Turn}
 use Rattle.checker.specs.declared.walk.Way.{Way}
 use Rattle.checker.specs.declared.walk.Way.the-variants.{On, Ended}
+
+-- What the walk's answer comes to; at END no block is open.
+abbrev pub concluded : Verdict → Seen → Outcome
+concluded (Accepted instructions) s = accepted s
+concluded (Refused number place) s = refused number place
+
+abbrev pub outcome : Checked → List ℕ → Outcome
+outcome c words = concluded (c .verdict) (programSeen (c .program) words [])
 
 -- The words of n immediates stand first among 1,024, and 0 after them.
 pub record Padded (n : ℕ) (words : List ℕ) : Type 0 where

@@ -1,9 +1,11 @@
 // The checker of program files: the refusals 1 to 13 of document 01.
 use program::Program;
 ghost use mathlib.Core.Path.{_≡_};
-ghost use Prim.Native.Nat.{_≤_};
-ghost use Rattle.checker.specs.Check.{checkOf, told, toldOf, outcome, wordsAfter};
+ghost use mathlib.Core.List.{List};
+ghost use Prim.Native.Nat.{ℕ};
+ghost use Rattle.checker.specs.Check.{checkOf, refused, told, toldOf, examinedAs, examined};
 
+mod kept;
 pub mod program;
 mod walk;
 
@@ -15,7 +17,7 @@ pub enum Verdict {
     Refused(u8, u32),
 }
 
-// A verdict, and what a run needs of the program where it is accepted.
+// A verdict, and what a run needs of the program: where it is refused, one of which nothing has been seen.
 pub struct Checked {
     pub verdict: Verdict,
     pub program: Program,
@@ -32,12 +34,10 @@ pub fn check(file: &[u8]) -> Verdict
     checked.verdict
 }
 
-// The same with what a run needs of an accepted program, whose immediates' words are lent out, in order, and 0 after them.
+// The same with what a run needs of an accepted program, whose immediates' words are lent out, in order, and 0 after them. Where
+// it is refused the lent words stay.
 pub fn examine(file: &[u8], immediates: &mut [u32; 1024]) -> Checked
-    ensures found { λ r. ⌜ outcome r (now (immediates .exit)) ≡ checkOf (now (file .entry)) ⌝ }
-    ensures told { λ r. ⌜ told (r .verdict) ≡ toldOf (checkOf (now (file .entry))) ⌝ }
-    ensures words { λ r. ⌜ now (immediates .exit) ≡ wordsAfter (checkOf (now (file .entry))) (now (immediates .entry)) ⌝ }
-    ensures bound { λ r. ⌜ r .program .immediates ≤ 256 ⌝ }
+    ensures { λ r. ⌜ examinedAs r (now (immediates .exit)) ≡ examined (checkOf (now (file .entry))) (now (immediates .entry)) ⌝ }
 {
     let mut words = [0u32; 1024];
     let mut values = [0u32; 1024];
@@ -49,6 +49,16 @@ pub fn examine(file: &[u8], immediates: &mut [u32; 1024]) -> Checked
             *immediates = words;
             checked
         }
-        Verdict::Refused(_, _) => checked,
+        Verdict::Refused(number, place) => refused(number, place),
+    }
+}
+
+// The answer that refuses a program; nothing is handed over of it.
+pub fn refused(number: u8, place: u32) -> Checked
+    ensures { λ r. ⌜ ((words : List ℕ) → examinedAs r words ≡ examined (refused number place) words) ⌝ }
+{
+    Checked {
+        verdict: Verdict::Refused(number, place),
+        program: kept::unseen(),
     }
 }

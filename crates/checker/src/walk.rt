@@ -1,7 +1,7 @@
 // The walk over the records: each is taken, or refused with the lowest number that applies.
 use crate::Checked;
 use crate::Verdict;
-use crate::program;
+use crate::kept;
 use crate::program::Program;
 use format::refusals;
 use nesting::Blocks;
@@ -18,10 +18,10 @@ ghost use Rattle.format.specs.Refusals.{noEnd};
 ghost use Rattle.blocks.specs.Control.{opOf};
 ghost use Rattle.blocks.specs.Nesting.{rule};
 ghost use Rattle.checker.specs.Findings.{nothing, nested, declarationFinding, immediateFinding, instructionFinding, recordFinding};
-ghost use Rattle.checker.specs.Check.{checkOf, told, toldOf, outcome};
+ghost use Rattle.checker.specs.Check.{checkOf, told, toldOf};
 ghost use Rattle.checker.specs.declared.Verdict.the-variants.{Refused};
 ghost use Rattle.nesting.specs.Inner.Held.{blocksOf, Trees};
-ghost use Rattle.checker.specs.Held.{seen, findingOf, operandRefusal, takenOf, endOf, wayAfter, Turned, Sound, Padded};
+ghost use Rattle.checker.specs.Held.{outcome, seen, findingOf, operandRefusal, takenOf, endOf, wayAfter, Turned, Sound, Padded};
 
 // What the checker knows after some records.
 pub struct State {
@@ -81,7 +81,7 @@ fn declaration(s: State, file: &[u8], at: usize, next: usize) -> Taken
         };
     }
     let mut t = s;
-    t.program = program::with_declaration(p, d, next);
+    t.program = kept::with_declaration(p, d, next);
     Taken {
         refusal: 0,
         state: t,
@@ -108,7 +108,7 @@ fn immediate(s: State, file: &[u8], at: usize, next: usize, words: &mut [u32; 10
         };
     }
     let mut t = s;
-    t.program = program::with_immediate(p, file, at, next, words);
+    t.program = kept::with_immediate(p, file, at, next, words);
     Taken {
         refusal: 0,
         state: t,
@@ -246,7 +246,7 @@ fn started() -> State
     ensures { λ r. ⌜ ((words : List ℕ) (values : List ℕ) → seen r words values ≡ nothing) × Sound r × (r .program .immediates ≡ 0) × ((values : List ℕ) (links : List ℕ) → length values ≡ 1024 → length links ≡ 2048 → Trees (r .blocks) values links) ⌝ }
 {
     State {
-        program: program::unseen(),
+        program: kept::unseen(),
         blocks: nesting::none_open(),
     }
 }
@@ -324,7 +324,7 @@ pub fn walk(
     if format::records::LONGEST < end {
         return Checked {
             verdict: Verdict::Refused(refusals::TOO_LONG, 0),
-            program: program::unseen(),
+            program: kept::unseen(),
         };
     }
     let mut s = started();

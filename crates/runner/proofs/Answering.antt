@@ -15,8 +15,10 @@ use Rattle.registers.specs.Sets.{isIn}
 use Rattle.checker.specs.declared.Checked.{Checked}
 use Rattle.checker.specs.declared.Verdict.the-variants.{Accepted, Refused}
 use Rattle.checker.specs.declared.program.Program.{Program}
-use Rattle.checker.specs.Check.{accepted, refused, follows, breaks, checkOf, programSeen, outcome, concluded, wordsAfter}
+use Rattle.checker.specs.Check.{accepted, refused, follows, breaks, checkOf, programSeen, wordsAfter, examinedAs, examined}
 use Rattle.checker.specs.Findings.{Seen}
+use Rattle.checker.specs.Held.{outcome, concluded}
+use Rattle.checker.proofs.Examining.{outcome-is, words-are}
 use Rattle.checker.proofs.Followed.{followed}
 use Rattle.effects.specs.Destinations.{State}
 use Rattle.effects.specs.Effect.{state}
@@ -51,7 +53,10 @@ table-made s file work ok room =
 
 -- ---- Preparing alone
 
-module _ (file : List ℕ) (c : Checked) (words : List ℕ) (found : outcome c words ≡ checkOf file) (work : List ℕ) where
+module _ (file : List ℕ) (c : Checked) (words before : List ℕ) (answer : examinedAs c words ≡ examined (checkOf file) before) (work : List ℕ) where
+  found : outcome c words ≡ checkOf file
+  found = outcome-is c words before (checkOf file) answer
+
   pub prepare-refused : (number place : ℕ) → c .verdict ≡ Refused number place → prepareAfter (breaks number place) work ≡ prepareOf file work
   unfolding prepareOf
   prepare-refused number place e =
@@ -157,26 +162,28 @@ run-within file inputs constants over left a budget e =
     let same : stepsOf a ≡ stepsOf (runOf file inputs constants over budget .answer) = ap (λ x. stepsOf (x .answer)) e in
     omega (arith, same, within-budget file inputs constants over budget)
 
-module _ (file inputs constants registers work memory : List ℕ) (c : Checked) (words : List ℕ)
-    (found : outcome c words ≡ admissionOf file (sizesOf inputs constants (lent registers work memory)))
+module _ (file inputs constants registers work memory : List ℕ) (c : Checked) (words before : List ℕ)
+    (answer : examinedAs c words ≡ examined (admissionOf file (sizesOf inputs constants (lent registers work memory))) before)
   where
     abbrev over : Lent
     over = lent registers work memory
 
+    admission-said : outcome c words ≡ admissionOf file (sizesOf inputs constants over)
+    admission-said = outcome-is c words before (admissionOf file (sizesOf inputs constants over)) answer
+
     pub run-refused : (budget number place : ℕ) → c .verdict ≡ Refused number place → after (said (breaks number place)) over ≡ runOf file inputs constants over budget
     unfolding runOf runAdmitted
     run-refused budget number place e =
-        let is : admissionOf file (sizesOf inputs constants over) ≡ refused number place = sym found ∙ ap (λ v. concluded v (programSeen (c .program) words [])) e in
+        let is : admissionOf file (sizesOf inputs constants over) ≡ refused number place = sym admission-said ∙ ap (λ v. concluded v (programSeen (c .program) words [])) e in
         rw is
 
-    pub admits-it : (n : ℕ) (before : List ℕ) → c .verdict ≡ Accepted n → words ≡ wordsAfter (checkOf file) before
-        → Admits (c .program) words file inputs constants over
-    admits-it n before e padded =
+    pub admits-it : (n : ℕ) → c .verdict ≡ Accepted n → Admits (c .program) words file inputs constants over
+    admits-it n e =
         let is : admissionOf file (sizesOf inputs constants over) ≡ accepted (programSeen (c .program) words []) =
-        sym found ∙ ap (λ v. concluded v (programSeen (c .program) words [])) e in
+        sym admission-said ∙ ap (λ v. concluded v (programSeen (c .program) words [])) e in
         record {
           is = is;
           padded =
               padded-words words (take (4 * c .program .immediates) words) (1024 - length (take (4 * c .program .immediates) words))
-              (padded ∙ ap (λ o. wordsAfter o before) (admitted-is file (sizesOf inputs constants over) (programSeen (c .program) words []) is .follows));
+              (words-are c words before (admissionOf file (sizesOf inputs constants over)) answer ∙ ap (λ o. wordsAfter o before) is);
         }

@@ -1,8 +1,7 @@
 // The OUT registers that a program declares, a line each.
+use format::files::OUT;
 use registers::sets;
 use registers::sets::Declared;
-
-const OUT: u8 = 3;
 
 const OUT_REGISTERS: u8 = 32;
 

@@ -11,5 +11,6 @@ admit-spec =
     (tie.spec
     (search needs) (search needs) (search needs) (search needs)
     (λ c. search (needs, admits))
+    (search needs)
     (λ c. search (needs, check-refuses))
-    (λ c. search (needs, lent-refuses)))
+    (λ c. search (needs, lent-refuses, c .refused .ensures)))

@@ -1,8 +1,8 @@
 -- Which number of the two is the greater.
 use borrow.Author.Needs.{needs}
 use Rattle.checker.proofs.Keeping.{reach-other, reach-more, reach-same}
-use Rattle.checker.proofs.program.reach_of.Statement.{statement}
-use Rattle.checker.proofs.program.reach_of.Tie as tie
+use Rattle.checker.proofs.kept.reach_of.Statement.{statement}
+use Rattle.checker.proofs.kept.reach_of.Tie as tie
 
 pub reach-of-spec : {M : Type 1} → statement M
 reach-of-spec =

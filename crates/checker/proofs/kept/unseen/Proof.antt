@@ -1,8 +1,8 @@
 -- Nothing is declared, and no number has been counted.
 use borrow.Author.Needs.{needs}
 use Rattle.checker.proofs.Keeping.{kept-nothing}
-use Rattle.checker.proofs.program.unseen.Statement.{statement}
-use Rattle.checker.proofs.program.unseen.Tie as tie
+use Rattle.checker.proofs.kept.unseen.Statement.{statement}
+use Rattle.checker.proofs.kept.unseen.Tie as tie
 
 pub unseen-spec : {M : Type 1} → statement M
 unseen-spec =

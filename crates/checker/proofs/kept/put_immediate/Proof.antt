@@ -1,8 +1,8 @@
 -- Four writes, one after the other.
 use borrow.Author.Needs.{needs}
 use Rattle.checker.proofs.Keeping.{four-sets}
-use Rattle.checker.proofs.program.put_immediate.Statement.{statement}
-use Rattle.checker.proofs.program.put_immediate.Tie as tie
+use Rattle.checker.proofs.kept.put_immediate.Statement.{statement}
+use Rattle.checker.proofs.kept.put_immediate.Tie as tie
 
 pub put-immediate-spec : {M : Type 1} → statement M
 put-immediate-spec =
