@@ -12,7 +12,7 @@ use Rattle.checker.specs.declared.Checked.{Checked}
 use Rattle.checker.specs.declared.Verdict.the-variants.{Accepted, Refused}
 use Rattle.checker.specs.Check.{Outcome, accepted, refused, checkOf, programSeen, wordsAfter, examinedAs, examined}
 use Rattle.checker.specs.Findings.{Seen}
-use Rattle.checker.specs.Held.{concluded}
+use Rattle.checker.specs.Inner.Held.{concluded}
 use Rattle.checker.proofs.Examining.{outcome-is, words-are}
 use Rattle.admission.specs.declared.Sizes.{Sizes}
 use Rattle.admission.specs.Admission.{workShort, lentRefusal, admitted, admissionOf}

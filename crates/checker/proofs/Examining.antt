@@ -7,7 +7,7 @@ use native.Mathlib.Omega.{arith}
 use lib.ListN.{length, take, replicate, take-append-drop}
 use Rattle.checker.specs.Findings.{Seen, nothing}
 use Rattle.checker.specs.Check.{Outcome, accepted, refused, checkOf, Told, follows, breaks, told, toldOf, programSeen, wordsAfter, seenOf, Examined, examinedAs, examined}
-use Rattle.checker.specs.Held.{Padded, concluded, outcome}
+use Rattle.checker.specs.Inner.Held.{Padded, concluded, outcome}
 use Rattle.checker.specs.declared.Checked.{Checked}
 use Rattle.checker.specs.declared.Verdict.{Verdict}
 use Rattle.checker.specs.declared.Verdict.the-variants.{Accepted, Refused}

@@ -19,7 +19,7 @@ use Rattle.registers.specs.Rules.{declarationRule}
 use Rattle.registers.specs.declared.sets.Declared.{Declared}
 use Rattle.checker.specs.Findings.{nothing, reach, withDeclaration, immediateAt, withImmediate}
 use Rattle.checker.specs.Check.{programSeen}
-use Rattle.checker.specs.Held.{Padded}
+use Rattle.checker.specs.Inner.Held.{Padded}
 use Rattle.checker.specs.declared.program.Program.{Program}
 
 -- ---- Declarations

@@ -4,5 +4,4 @@ pub mod Taking
 pub mod Walking
 pub mod Examining
 pub mod Followed
-pub mod Cases
 pub mod Accepted

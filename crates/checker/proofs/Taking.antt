@@ -22,7 +22,7 @@ use Rattle.checker.specs.Check.{programSeen}
 use Rattle.nesting.specs.Arrays.{noneOpen, nestOf}
 use Rattle.nesting.specs.Inner.Held.{blocksOf, Trees}
 use Rattle.nesting.proofs.Rules.{nest-says, nest-sound, nest-held, nest-trees, nest-stays, none-blocks, none-sound, none-held}
-use Rattle.checker.specs.Held.{seen, findingOf, operandRefusal, instructed, takenBy, takenOf, Padded, Sound}
+use Rattle.checker.specs.Inner.Held.{seen, findingOf, operandRefusal, instructed, takenBy, takenOf, Padded, Sound}
 use Rattle.nesting.specs.declared.Blocks.{Blocks}
 use Rattle.nesting.specs.declared.Nested.{Nested}
 use Rattle.checker.specs.declared.program.Program.{Program}

@@ -20,7 +20,7 @@ use Rattle.registers.specs.Found.{operandsFound}
 use Rattle.checker.specs.Findings.{Seen, nothing, Finding, taken, due, nested, withInstruction, declarationFinding, immediateFinding, instructionFinding, recordFinding}
 use Rattle.checker.specs.Check.{accepted, refused, onward, walk, checkOf, breaks, told, toldOf, programSeen}
 use Rattle.nesting.specs.Inner.Held.{blocksOf}
-use Rattle.checker.specs.Held.{concluded, seen, endOf, wayAfter, Tells, Turned}
+use Rattle.checker.specs.Inner.Held.{concluded, seen, endOf, wayAfter, Tells, Turned}
 use Rattle.checker.specs.declared.Verdict.{Verdict}
 use Rattle.checker.specs.declared.Verdict.the-variants.{Accepted, Refused}
 use Rattle.checker.specs.declared.program.Program.{Program}

@@ -1,3 +1,3 @@
 pub mod Findings
 pub mod Check
-pub mod Held
+pub mod Inner

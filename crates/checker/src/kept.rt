@@ -16,7 +16,7 @@ ghost use Rattle.blocks.specs.Nesting.{Open};
 ghost use Rattle.registers.specs.Rules.{declarationRule};
 ghost use Rattle.checker.specs.Findings.{nothing, reach, withDeclaration, immediateAt, withImmediate};
 ghost use Rattle.checker.specs.Check.{programSeen};
-ghost use Rattle.checker.specs.Held.{Padded};
+ghost use Rattle.checker.specs.Inner.Held.{Padded};
 
 // A program of which nothing has been seen.
 pub fn unseen() -> Program

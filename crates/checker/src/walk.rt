@@ -21,7 +21,7 @@ ghost use Rattle.checker.specs.Findings.{nothing, nested, declarationFin
 ghost use Rattle.checker.specs.Check.{checkOf, told, toldOf};
 ghost use Rattle.checker.specs.declared.Verdict.the-variants.{Refused};
 ghost use Rattle.nesting.specs.Inner.Held.{blocksOf, Trees};
-ghost use Rattle.checker.specs.Held.{outcome, seen, findingOf, operandRefusal, takenOf, endOf, wayAfter, Turned, Sound, Padded};
+ghost use Rattle.checker.specs.Inner.Held.{outcome, seen, findingOf, operandRefusal, takenOf, endOf, wayAfter, Turned, Sound, Padded};
 
 // What the checker knows after some records.
 pub struct State {

@@ -5,13 +5,15 @@ use Rattle.effects.specs.Destinations.{State, components, firstWord, mas
 use Rattle.words.specs.Word.{cas}
 use Rattle.results.specs.Arithmetic.{atomic, wideOf, wideUnaryOf}
 use Rattle.effects.specs.Memory.{loaded, loadedFrom, stored, storedFrom}
+use Rattle.format.specs.Kinds.{within}
 use Rattle.format.proofs.Ranges.{every, in-range}
 use Prim.Native.Nat.{_-_, _<_, _≤_, ℕ}
 use mathlib.Core.Path.{_∙_, _≡_, ap, refl, sym}
-use mathlib.Core.Bool.{Bool, _||_}
+use mathlib.Core.Bool.{Bool, true, false, _&&_, _||_}
 use mathlib.Core.List.{List, [], _∷_}
-use borrow.Author.Tests.{ne-eqb}
-use lib.Dec.{T, eqb, eqb→eq}
+use native.Mathlib.Omega.{arith}
+use borrow.Author.Tests.{lt-leb, ne-eqb}
+use lib.Dec.{T, eqb, eqb→eq, leb}
 use Rattle.format.specs.declared.fields.Destination.{Destination}
 
 -- what is written to the register of the destination
@@ -91,3 +93,30 @@ effect-in f lo hi e k d o s t w x y z a b r = rw same r
 
     same : familyOf k ≡ f
     same = same-family (familyOf k) f told
+
+-- ---- kinds without an effect
+
+-- A kind above a range is not in it.
+above : (lo hi k : ℕ) → hi < k → within lo hi k ≡ false
+above lo hi k h = by (leb lo k)
+  where
+    by : (t : Bool) → (t && leb k hi) ≡ false
+    by true = lt-leb k hi h
+    by false = refl
+
+-- "Labels and closing marks only count." (01, Blocks) So do UIF, SWITCH and what opens a loop: no kind from 80 up has an effect.
+pub only-counts : (k : ℕ) → 0x80 ≤ k → (d : Destination) (o : List (List ℕ)) (s : State) → effectOf (familyOf k) k d o s ≡ s
+unfolding familyOf
+only-counts k h d o s =
+    rw (
+      above 0x10 0x1A k (omega arith),
+      above 0x1B 0x1D k (omega arith),
+      ne-eqb k 0x1E (λ e. omega arith),
+      above 0x20 0x37 k (omega arith),
+      above 0x40 0x52 k (omega arith),
+      ne-eqb k 0x58 (λ e. omega arith),
+      above 0x56 0x5F k (omega arith),
+      above 0x60 0x63 k (omega arith),
+      ne-eqb k 0x64 (λ e. omega arith),
+      ne-eqb k 0x70 (λ e. omega arith),
+    )

@@ -14,8 +14,8 @@ use lib.Seq.{getD-append-add}
 use Rattle.words.specs.Word.{bitIn}
 use Rattle.registers.specs.declared.sets.Declared.{Declared}
 use Rattle.registers.specs.Sets.{isIn}
-use Rattle.machine.specs.Bank.{envIn}
-use Rattle.machine.specs.Operands.{declaredIn, envWith, wordIn}
+use Rattle.machine.specs.Bank.{envIn, declaredIn}
+use Rattle.machine.specs.Operands.{envWith, wordIn}
 use Rattle.execution.specs.Steps.{askedIndirectly, bankEnv}
 use Rattle.execution.proofs.Copies.{copy-end}
 

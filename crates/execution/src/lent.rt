@@ -9,8 +9,7 @@ ghost use Prim.Native.Nat.{_<_, min};
 ghost use lib.ListN.{getD};
 ghost use Rattle.format.specs.Files.{lentRegisters};
 ghost use Rattle.registers.specs.Sets.{isIn};
-ghost use Rattle.machine.specs.Bank.{envIn};
-ghost use Rattle.machine.specs.Operands.{declaredIn};
+ghost use Rattle.machine.specs.Bank.{envIn, declaredIn};
 ghost use Rattle.execution.specs.Program.{cleared};
 ghost use Rattle.execution.specs.Steps.{askedIndirectly, bankEnv};
 
@@ -18,7 +17,11 @@ ghost use Rattle.execution.specs.Steps.{askedIndirectly, bankEnv};
 fn register_words(lent: usize) -> usize
     ensures { λ r. ⌜ r ≡ min lentRegisters lent ⌝ }
 {
-    if REGISTER_WORDS <= lent { REGISTER_WORDS } else { lent }
+    if REGISTER_WORDS <= lent {
+        REGISTER_WORDS
+    } else {
+        lent
+    }
 }
 
 // Sets the register words to 0, and no word past them.

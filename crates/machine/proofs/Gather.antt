@@ -12,8 +12,9 @@ use lib.Dec.{eqb, ltb}
 use lib.ListN.{length, getD, set, take, drop, replicate, length-replicate, length-take, getD-replicate, List·getD-append, List·getD-eq-default}
 use lib.Seq.{getD-append-add, getD-drop, getD-take, length-paste, length-paste-head, paste, paste-suc, paste-zero, take-all}
 use Rattle.words.specs.Word.{bitIn, isSet}
-use Rattle.machine.specs.Bank.{envIn, laid, part}
-use Rattle.machine.specs.Operands.{declaredIn, envWith, wordIn}
+use Rattle.machine.specs.Bank.{envIn, part, declaredIn}
+use Rattle.machine.specs.Inner.Parts.{laid}
+use Rattle.machine.specs.Operands.{envWith, wordIn}
 
 -- ---- Words of a copy
 

@@ -1,7 +1,7 @@
 -- Sources: a register number with its address, the words of each file, and the four components.
 -- Assumes nothing.
-use Rattle.machine.specs.Bank.{envIn, part}
-use Rattle.machine.specs.Operands.{Env, declaredIn, fourFrom, ifDeclared, negated, nthSource, registerOf, registerWords, selected, sourceOf, sourcesOf, taken, wordIn}
+use Rattle.machine.specs.Bank.{envIn, part, declaredIn}
+use Rattle.machine.specs.Operands.{Env, fourFrom, ifDeclared, negated, nthSource, registerOf, registerWords, selected, sourceOf, sourcesOf, taken, wordIn}
 use Rattle.effects.specs.Destinations.{components, zeros}
 use Rattle.words.specs.Word.{bitIn, neg, signed}
 use Rattle.format.specs.Kinds.{firstSource, formOf, sources}

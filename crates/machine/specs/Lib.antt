@@ -1,3 +1,4 @@
 pub mod Operands
 pub mod Bank
 pub mod Step
+pub mod Inner

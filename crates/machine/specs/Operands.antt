@@ -1,12 +1,12 @@
 -- Operands: what a source reads (01, "Register files", "Instruction corners").
 -- Assumes nothing.
 use Prim.Native.Nat.{ℕ, _+_, _-_, _*_, _/_, _%_, _^_}
-use mathlib.Core.Bool.{Bool, false, cond, _&&_}
+use mathlib.Core.Bool.{Bool, cond}
 use mathlib.Core.List.{List, [], _∷_}
 use lib.Dec.{ltb, eqb}
 use lib.ListN.{getD}
 use lib.IntN.{ℤ, pos, negsuc, _+ℤ_}
-use Rattle.words.specs.Word.{bitIn, neg, signed}
+use Rattle.words.specs.Word.{neg, signed}
 use Rattle.format.specs.Files.{CONST, IN, TEMP, IMM, tempFrom, addrFrom}
 use Rattle.format.specs.Kinds.{formOf, sources, sourcePlace}
 use Rattle.format.specs.Fields.{sourceAt, negates, indirection}
@@ -37,13 +37,6 @@ envWith declared immediates inputs constants =
       immediates = wordIn immediates;
       declared = declared;
     }
-
--- "which registers of each file are declared, one bit each" (01, Forms): 1,024 bits for CONST, then 256 for TEMP, of
--- which alone an indirect operand asks.
-unfoldable pub declaredIn : List ℕ → ℕ → ℕ → Bool
-declaredIn words f i =
-    cond (eqb f CONST) (ltb i 1024 && bitIn words i)
-    (cond (eqb f TEMP) (ltb i 256 && bitIn words (1024 + i)) false)
 
 -- ---- one source
 
@@ -102,9 +95,6 @@ unfoldable pub nthSource : Env → List ℕ → List ℕ → ℕ → List ℕ
 nthSource e r bytes i =
     cond (ltb i (sources (formOf (kindByte bytes)))) (sourceOf e r (sourceAt bytes (sourcePlace (kindByte bytes) i)))
     zeros
-
-abbrev pub noSources : List (List ℕ)
-noSources = zeros ∷ zeros ∷ zeros ∷ zeros ∷ []
 
 -- "All sources are read before any write" (01, Instruction corners)
 unfoldable pub sourcesOf : Env → List ℕ → List ℕ → List (List ℕ)

@@ -1,16 +1,15 @@
 -- One step: the machine that an instruction list is, for the run by the table (blocks' `step`).
 -- Assumes nothing.
 use Prim.Native.Nat.{ℕ}
-use mathlib.Core.Bool.{Bool, false}
-use mathlib.Core.List.{List, []}
+use mathlib.Core.List.{List}
 use lib.ListN.{getD, drop}
 use Rattle.format.specs.Fields.{destinationAt, caseAt}
-use Rattle.blocks.specs.Control.{Machine, caseOf}
+use Rattle.blocks.specs.Control.{Machine}
 use Rattle.blocks.specs.Run.{Step}
 use Rattle.blocks.specs.declared.Next.{Next}
 use Rattle.effects.specs.Destinations.{State}
 use Rattle.effects.specs.Effect.{familyOf, effectOf, state, xOf}
-use Rattle.machine.specs.Operands.{Env, envWith, kindByte, sourcesOf}
+use Rattle.machine.specs.Operands.{Env, kindByte, sourcesOf}
 
 -- The effect of the instruction whose record has these bytes, and of the instruction at place p of the file.
 unfoldable pub recordEffect : Env → List ℕ → State → State
@@ -33,14 +32,6 @@ machineOf e file place =
       test = λ n s. testOf e (s .registers) (drop (place n) file);
       value = λ n. e .immediates (caseAt file (place n));
     }
-
--- The same with nothing but the immediates, for the walk along labels, which looks at kinds and the words of CASEs only.
-abbrev pub labelsOf : List ℕ → List ℕ → (ℕ → ℕ) → Machine State
-labelsOf immediates file place = machineOf (envWith (λ f i. false) immediates [] []) file place
-
--- Whether the record at place p is the CASE of x, as blocks' `caseOf` asks of the instruction there.
-unfoldable pub isCaseAt : List ℕ → List ℕ → ℕ → ℕ → Bool
-isCaseAt immediates file p x = caseOf (labelsOf immediates file (λ n. p)) x 0
 
 -- What a step leaves, as blocks' `step` has it.
 abbrev pub stepped : Next → List ℕ → List ℕ → Step State

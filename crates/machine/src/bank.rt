@@ -3,8 +3,9 @@
 ghost use mathlib.Core.Path.{_≡_};
 ghost use Prim.Native.Nat.{_+_, _≤_};
 ghost use lib.ListN.{length, take};
-ghost use Rattle.machine.specs.Operands.{declaredIn, envWith};
-ghost use Rattle.machine.specs.Bank.{laid, envIn};
+ghost use Rattle.machine.specs.Operands.{envWith};
+ghost use Rattle.machine.specs.Bank.{declaredIn, envIn};
+ghost use Rattle.machine.specs.Inner.Parts.{laid};
 
 // Where the words of each part begin, and how many there are.
 pub const CONST_AT: usize = 0;

@@ -1,6 +1,8 @@
 // Where a SWITCH goes: the walk along its labels, which looks at all CASEs before it takes DEFAULT.
 use blocks::MOST_INSTRUCTIONS;
 use blocks::ROW_WORDS;
+use blocks::control::CASE;
+use blocks::control::DEFAULT;
 use effects::lent::word_at;
 use format::fields::byte_at;
 use format::fields::case_word;
@@ -11,7 +13,7 @@ ghost use lib.ListN.{getD};
 ghost use Rattle.blocks.specs.Control.{DEFAULT, is, opOf};
 ghost use Rattle.blocks.specs.Table.{placeIn, rowIn};
 ghost use Rattle.blocks.specs.Run.{walk, mostInstructions};
-ghost use Rattle.machine.specs.Step.{isCaseAt, labelsOf};
+ghost use Rattle.machine.specs.Inner.Parts.{isCaseAt, labelsOf};
 
 // The words of row n, 0 outside the rows.
 pub fn place_of(rows: &[u32], n: u32) -> u32
@@ -37,7 +39,7 @@ fn after_case(file: &[u8], immediates: &[u32], place: usize, kind: u8, x: u32, m
     requires { ⌜ kind ≡ getD (now file) place 0 ⌝ }
     ensures { λ r. ⌜ r ≡ cond (isCaseAt (now (immediates .entry)) (now (file .entry)) place x) (suc m) 0 ⌝ }
 {
-    if kind == 0x92 {
+    if kind == CASE {
         if case_word(immediates, file, place) == x {
             return m as usize + 1;
         }
@@ -49,7 +51,7 @@ fn after_case(file: &[u8], immediates: &[u32], place: usize, kind: u8, x: u32, m
 fn after_default(kind: u8, m: u32, other: usize) -> usize
     ensures { λ r. ⌜ r ≡ cond (is DEFAULT (opOf kind)) (suc m) other ⌝ }
 {
-    if kind == 0x87 {
+    if kind == DEFAULT {
         return m as usize + 1;
     }
     other

@@ -21,8 +21,9 @@ ghost use Prim.Native.Nat.{_+_, _<_, _≤_, _^_};
 ghost use lib.IntN.{pos, _+ℤ_};
 ghost use lib.ListN.{length};
 ghost use Rattle.words.specs.Word.{signed};
-ghost use Rattle.machine.specs.Operands.{wordIn, declaredIn, ifDeclared, registerOf, selected, fourFrom, registerWords, taken, sourceOf, kindByte, noSources, sourcesOf};
-ghost use Rattle.machine.specs.Bank.{envIn};
+ghost use Rattle.machine.specs.Operands.{wordIn, ifDeclared, registerOf, selected, fourFrom, registerWords, taken, sourceOf, kindByte, sourcesOf};
+ghost use Rattle.machine.specs.Inner.Parts.{noSources};
+ghost use Rattle.machine.specs.Bank.{declaredIn, envIn};
 
 // The register that a source names, or none.
 pub enum Place {

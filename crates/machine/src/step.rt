@@ -7,6 +7,7 @@ use crate::labels::place_of;
 use crate::operands::read_sources;
 use crate::parts;
 use blocks::Next;
+use blocks::control;
 use effects::effect::effect;
 use format::fields::byte_at;
 use format::fields::destination_at;
@@ -51,17 +52,17 @@ pub fn step(
             effect(kind, destination_at(bytes, 1), &sources, registers, memory);
             Next::At(after)
         }
-        0x81 => Next::At(jump_of(rows, n) as usize),
-        0x84..=0x86 => Next::At(jump_of(rows, n) as usize),
-        0x89 => Next::Ended,
-        0x90 => {
+        control::ELSE => Next::At(jump_of(rows, n) as usize),
+        control::ENDLOOP..=control::CONT => Next::At(jump_of(rows, n) as usize),
+        control::END => Next::Ended,
+        control::UIF => {
             if x == 0 {
                 Next::At(jump_of(rows, n) as usize)
             } else {
                 Next::At(after)
             }
         }
-        0x91 => Next::At(after_label(
+        control::SWITCH => Next::At(after_label(
             file,
             rows,
             parts::immediates(bank),

@@ -9,6 +9,7 @@ use mathlib.Core.List.{List}
 use lib.Dec.{eqb, leb}
 use lib.ListN.{getD, set, replicate}
 use Rattle.format.specs.Kinds.{within}
+use Rattle.format.specs.Refusals.{nestingBroken, switchRuleBroken, tooDeep}
 use Rattle.blocks.specs.Control.{Op, PLAIN, ELSE, ENDIF, BGNLOOP, ENDLOOP, BRK, CONT, DEFAULT, ENDSWITCH, END, UIF, SWITCH, CASE, opOf}
 use Rattle.blocks.specs.Run.{mostInstructions}
 use Rattle.blocks.specs.Nesting.{opens, mostOpen}
@@ -88,9 +89,9 @@ switchKept SWITCH x b values links = not (unlabelled b)
 -- given" (01, Refusals by number).
 unfoldable pub nestingRefusal : Blocks → List ℕ → List ℕ → ℕ → ℕ → ℕ
 nestingRefusal b values links kind x =
-    cond (not (nestingKept (opOf kind) b)) 10
-    (cond (not (switchKept (opOf kind) x b values links)) 11
-    (cond (opens (opOf kind) && leb mostOpen (b .depth)) 12
+    cond (not (nestingKept (opOf kind) b)) nestingBroken
+    (cond (not (switchKept (opOf kind) x b values links)) switchRuleBroken
+    (cond (opens (opOf kind) && leb mostOpen (b .depth)) tooDeep
     0))
 
 -- ---- What is left

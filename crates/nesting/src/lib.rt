@@ -1,5 +1,8 @@
 // The open blocks, and the rules of nesting. The words of the CASEs of all open SWITCHes stand in one array, those of each
 // SWITCH from where it starts, and are a tree.
+use blocks::control;
+use blocks::control::is_opening;
+use format::refusals;
 ghost use mathlib.Core.Path.{_≡_};
 ghost use mathlib.Core.Bool.{true};
 ghost use Prim.Native.Nat.{_<_};
@@ -106,15 +109,15 @@ fn nesting_kept(b: Blocks, kind: u8) -> bool
     ensures { λ r. ⌜ r ≡ nestingKept (opOf kind) b ⌝ }
 {
     match kind {
-        0x81 => innermost_is(b, UIF, UIF),
-        0x82 => innermost_is(b, UIF, ELSE),
-        0x84 => innermost_is(b, LOOP, LOOP),
-        0x85 => some_is(b, LOOP, DEFAULTED),
-        0x86 => some_is(b, LOOP, LOOP),
-        0x87 => innermost_is(b, SWITCH, DEFAULTED),
-        0x88 => innermost_is(b, SWITCH, DEFAULTED),
-        0x89 => b.depth == 0,
-        0x92 => innermost_is(b, SWITCH, DEFAULTED),
+        control::ELSE => innermost_is(b, UIF, UIF),
+        control::ENDIF => innermost_is(b, UIF, ELSE),
+        control::ENDLOOP => innermost_is(b, LOOP, LOOP),
+        control::BRK => some_is(b, LOOP, DEFAULTED),
+        control::CONT => some_is(b, LOOP, LOOP),
+        control::DEFAULT => innermost_is(b, SWITCH, DEFAULTED),
+        control::ENDSWITCH => innermost_is(b, SWITCH, DEFAULTED),
+        control::END => b.depth == 0,
+        control::CASE => innermost_is(b, SWITCH, DEFAULTED),
         _ => true,
     }
 }
@@ -126,18 +129,12 @@ fn switch_kept(b: Blocks, values: &[u32; 1024], links: &[u16; 2048], kind: u8, x
     let start = innermost_start(b);
     let wordless = b.held <= start;
     match kind {
-        0x87 => innermost_is(b, SWITCH, SWITCH),
-        0x88 => innermost_is(b, SWITCH, DEFAULTED) & !wordless,
-        0x92 => innermost_is(b, SWITCH, SWITCH) & !tree::has_value(values, links, start, b.held, x),
+        control::DEFAULT => innermost_is(b, SWITCH, SWITCH),
+        control::ENDSWITCH => innermost_is(b, SWITCH, DEFAULTED) & !wordless,
+        control::CASE => innermost_is(b, SWITCH, SWITCH)
+            & !tree::has_value(values, links, start, b.held, x),
         _ => !(innermost_is(b, SWITCH, SWITCH) & wordless),
     }
-}
-
-// Whether instructions of a kind open a block.
-fn opens_block(kind: u8) -> bool
-    ensures { λ r. ⌜ r ≡ opens (opOf kind) ⌝ }
-{
-    (kind == 0x90) | (kind == 0x83) | (kind == 0x91)
 }
 
 // The lowest of 10, 11 and 12 that applies to an instruction of a kind, 0 for none; for a CASE x is its word.
@@ -145,13 +142,13 @@ fn nesting_refusal(b: Blocks, values: &[u32; 1024], links: &[u16; 2048], kind: u
     ensures { λ r. ⌜ r ≡ nestingRefusal b (now (values .entry)) (now (links .entry)) kind x ⌝ }
 {
     if !nesting_kept(b, kind) {
-        return 10;
+        return refusals::NESTING_BROKEN;
     }
     if !switch_kept(b, values, links, kind, x) {
-        return 11;
+        return refusals::SWITCH_RULE_BROKEN;
     }
-    if opens_block(kind) & (MOST_OPEN <= b.depth) {
-        return 12;
+    if is_opening(kind) & (MOST_OPEN <= b.depth) {
+        return refusals::TOO_DEEP;
     }
     0
 }
@@ -228,15 +225,15 @@ fn open_after(
     ensures { λ r. ⌜ leaving 0 r (now (values .exit)) (now (links .exit)) ≡ leftAfter (opOf kind) x b (now (values .entry)) (now (links .entry)) ⌝ }
 {
     match kind {
-        0x81 => recoded(b, ELSE),
-        0x82 => popped(b),
-        0x83 => pushed(b, LOOP),
-        0x84 => popped(b),
-        0x87 => recoded(b, DEFAULTED),
-        0x88 => popped(b),
-        0x90 => pushed(b, UIF),
-        0x91 => pushed(b, SWITCH),
-        0x92 => labelled(b, values, links, x),
+        control::ELSE => recoded(b, ELSE),
+        control::ENDIF => popped(b),
+        control::BGNLOOP => pushed(b, LOOP),
+        control::ENDLOOP => popped(b),
+        control::DEFAULT => recoded(b, DEFAULTED),
+        control::ENDSWITCH => popped(b),
+        control::UIF => pushed(b, UIF),
+        control::SWITCH => pushed(b, SWITCH),
+        control::CASE => labelled(b, values, links, x),
         _ => b,
     }
 }

@@ -2,26 +2,36 @@
 use libc::STDOUT_FILENO;
 use runner::Outcome;
 
-pub fn text(bytes: &[u8]) {
+pub fn text(bytes: &[u8])
+    ensures { λ _. ⊤ₛ }
+{
     io::write_all(STDOUT_FILENO, bytes);
 }
 
-pub fn line_end() {
+pub fn line_end()
+    ensures { λ _. ⊤ₛ }
+{
     text(b"\n");
 }
 
-pub fn number(n: u64) {
+pub fn number(n: u64)
+    ensures { λ _. ⊤ₛ }
+{
     io::print_decimal(STDOUT_FILENO, n);
 }
 
 // A space and a number.
-pub fn next_number(n: u64) {
+pub fn next_number(n: u64)
+    ensures { λ _. ⊤ₛ }
+{
     text(b" ");
     number(n);
 }
 
 // `ended STEPS`, `halted STEPS NEXT` or `refused NUMBER PLACE`, and the line's end.
-pub fn outcome_line(outcome: Outcome) {
+pub fn outcome_line(outcome: Outcome)
+    ensures { λ _. ⊤ₛ }
+{
     match outcome {
         Outcome::Ended(told) => {
             text(b"ended");

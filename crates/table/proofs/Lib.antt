@@ -1,4 +1,3 @@
-pub mod Examples
 pub mod Filled
 pub mod Laid
 pub mod Located

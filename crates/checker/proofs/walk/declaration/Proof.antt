@@ -1,6 +1,6 @@
 -- The tests come in the order of the numbers, as in the definition.
 use borrow.Author.Needs.{needs}
-use Rattle.checker.specs.Held.{seen}
+use Rattle.checker.specs.Inner.Held.{seen}
 use Rattle.checker.proofs.Records.{declaration-5, declaration-7, declaration-8, declaration-taken}
 use Rattle.checker.proofs.Taking.{kept-rule, sound-declaration}
 use Rattle.checker.proofs.walk.declaration.Statement.{statement}

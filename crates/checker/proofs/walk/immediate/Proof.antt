@@ -1,6 +1,6 @@
 -- The tests come in the order of the numbers, as in the definition.
 use borrow.Author.Needs.{needs}
-use Rattle.checker.specs.Held.{seen}
+use Rattle.checker.specs.Inner.Held.{seen}
 use Rattle.checker.proofs.Records.{immediate-5, immediate-6, immediate-taken}
 use Rattle.checker.proofs.Taking.{immediates-counted, sound-immediate}
 use Rattle.checker.proofs.walk.immediate.Statement.{statement}

@@ -1,7 +1,7 @@
 -- Nothing is declared, counted or open.
 use borrow.Author.Needs.{needs}
 use Rattle.nesting.proofs.Rules.{none-trees}
-use Rattle.checker.specs.Held.{seen}
+use Rattle.checker.specs.Inner.Held.{seen}
 use Rattle.checker.proofs.Taking.{nothing-seen, nothing-counted}
 use Rattle.checker.proofs.walk.started.Statement.{statement}
 use Rattle.checker.proofs.walk.started.Tie as tie

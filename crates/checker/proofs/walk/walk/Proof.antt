@@ -4,7 +4,7 @@ use Prim.Native.Nat.{_-_, _≤_}
 use lib.ListN.{length}
 use Rattle.format.proofs.Walk.{walk-fits, size-fits-by}
 use Rattle.nesting.specs.Inner.Held.{Trees}
-use Rattle.checker.specs.Held.{seen, Sound, Padded}
+use Rattle.checker.specs.Inner.Held.{seen, Sound, Padded}
 use Rattle.checker.proofs.Taking.{padded-same}
 use Rattle.checker.proofs.Walking.{Going, check-long, check-long-told, check-start, walk-stops, walk-tells, walk-goes, walk-less, ends-so, ends-told}
 use Rattle.checker.proofs.walk.walk.Statement.{statement}

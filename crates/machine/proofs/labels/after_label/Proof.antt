@@ -3,7 +3,7 @@ use mathlib.Core.Path.{_≡_}
 use borrow.Author.Needs.{needs}
 use Rattle.blocks.specs.Run.{mostInstructions, walk}
 use Rattle.blocks.specs.Table.{placeIn, rowIn}
-use Rattle.machine.specs.Step.{labelsOf}
+use Rattle.machine.specs.Inner.Parts.{labelsOf}
 use Rattle.machine.proofs.Walks.{label-found, label-on, walk-ended, walk-spent}
 use Rattle.machine.proofs.labels.after_label.Statement.{statement}
 use Rattle.machine.proofs.labels.after_label.Tie as tie

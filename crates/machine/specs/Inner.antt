@@ -1,0 +1,3 @@
+-- What the crate's functions promise each other: no public contract cites it.
+-- Assumes nothing.
+pub mod Parts

@@ -1,0 +1,27 @@
+-- What the parts of a step promise: words laid into the bank, sources that have not been read, and the walk along labels.
+-- Assumes nothing.
+use Prim.Native.Nat.{ℕ}
+use mathlib.Core.Bool.{Bool, false}
+use mathlib.Core.List.{List, [], _∷_}
+use lib.ListN.{length}
+use lib.Seq.{paste}
+use Rattle.blocks.specs.Control.{Machine, caseOf}
+use Rattle.effects.specs.Destinations.{State, zeros}
+use Rattle.machine.specs.Operands.{envWith}
+use Rattle.machine.specs.Step.{machineOf}
+
+-- Words copied into a list, from a place on.
+abbrev pub laid : List ℕ → ℕ → List ℕ → List ℕ
+laid l from words = paste l from words (length words)
+
+-- No source has been read yet.
+abbrev pub noSources : List (List ℕ)
+noSources = zeros ∷ zeros ∷ zeros ∷ zeros ∷ []
+
+-- The same with nothing but the immediates, for the walk along labels, which looks at kinds and the words of CASEs only.
+abbrev pub labelsOf : List ℕ → List ℕ → (ℕ → ℕ) → Machine State
+labelsOf immediates file place = machineOf (envWith (λ f i. false) immediates [] []) file place
+
+-- Whether the record at place p is the CASE of x, as blocks' `caseOf` asks of the instruction there.
+unfoldable pub isCaseAt : List ℕ → List ℕ → ℕ → ℕ → Bool
+isCaseAt immediates file p x = caseOf (labelsOf immediates file (λ n. p)) x 0
