@@ -7,6 +7,8 @@ use Prim.Native.Nat.{ℕ, _*_, _≤_}
 use native.Mathlib.Omega.{arith}
 use borrow.Author.Tests.{ne-eqb, eqb-true, ltb-false}
 use lib.Dec.{eqb, ltb}
+use Rattle.format.specs.Files.{lentRegisters}
+use Rattle.format.specs.Refusals.{inputsShort, constantsShort, registersShort, workingShort, memoryLong}
 use Rattle.blocks.specs.Table.{rowWords}
 use Rattle.checker.specs.declared.Checked.{Checked}
 use Rattle.checker.specs.declared.Verdict.the-variants.{Accepted, Refused}
@@ -77,7 +79,7 @@ admitted-is file lent s e = by (checkOf file) refl e
     by (accepted t) q r = same t q (eqb (lentRefusal t lent) 0) refl r
 
 passed : (t₀ t₁ t₂ t₃ t₄ : Bool)
-    → _≡_ {A = ℕ} (cond t₀ 20 (cond t₁ 21 (cond t₂ 22 (cond t₃ 23 (cond t₄ 24 0))))) 0
+    → _≡_ {A = ℕ} (cond t₀ inputsShort (cond t₁ constantsShort (cond t₂ registersShort (cond t₃ workingShort (cond t₄ memoryLong 0))))) 0
     → (t₂ ≡ false) × (t₃ ≡ false)
 passed true t₁ t₂ t₃ t₄ e = absurd (omega arith)
 passed false true t₂ t₃ t₄ e = absurd (omega arith)
@@ -86,10 +88,10 @@ passed false false false true t₄ e = absurd (omega arith)
 passed false false false false t₄ e = (refl, refl)
 
 -- Where no refusal is due, there are registers and working words enough.
-pub lent-enough : (s : Seen) (lent : Sizes) → lentRefusal s lent ≡ 0 → (1156 ≤ lent .registers) × (rowWords * s .instructions ≤ lent .work)
+pub lent-enough : (s : Seen) (lent : Sizes) → lentRefusal s lent ≡ 0 → (lentRegisters ≤ lent .registers) × (rowWords * s .instructions ≤ lent .work)
 unfolding lentRefusal
 lent-enough s lent e =
     let p =
-    passed (ltb (lent .inputs) (4 * s .inputs)) (ltb (lent .constants) (4 * s .constants)) (ltb (lent .registers) 1156)
+    passed (ltb (lent .inputs) (4 * s .inputs)) (ltb (lent .constants) (4 * s .constants)) (ltb (lent .registers) lentRegisters)
     (workShort s (lent .work)) (ltb 16384 (lent .memory)) e in
     (ltb-false _ _ (p .0), ltb-false _ _ (p .1))

@@ -17,7 +17,7 @@ use borrow.Author.Tests.{lt-ltb, ltb-true, ltb-false, leb-false, eqb-true, eqb-f
 use Rattle.format.specs.Records.{longest, sizeAt, placeFrom}
 use Rattle.format.specs.Fields.{declarationAt, caseWord}
 use Rattle.format.proofs.Walk.{place-step}
-use Rattle.format.specs.Refusals.{tooLong, byteAfterEnd, lateDeclaration, noEnd}
+use Rattle.format.specs.Refusals.{tooLong, byteAfterEnd, lateDeclaration, tooMany, fieldRuleBroken, overlapping, noEnd}
 use Rattle.blocks.specs.Control.{Op, END, is, opOf}
 use Rattle.blocks.specs.Nesting.{accepts}
 use Rattle.blocks.proofs.Ops.{kind-is}
@@ -229,9 +229,9 @@ module _ (file : List ℕ) where
   declared-before : (at : ℕ) (s u : Seen) → Before at s → declarationFinding s file at ≡ taken u → Before (at + sizeAt file at) u
   unfolding declarationFinding withDeclaration
   declared-before at s u before e =
-      let a = past-due (ltb 0 (s .instructions)) 5 _ u e in
-      let b = past-due (not (declarationRule (declarationAt file (at + 1)))) 7 _ u (a .1) in
-      let c = past-due (overlaps (s .declared) (declarationAt file (at + 1))) 8 _ u (b .1) in
+      let a = past-due (ltb 0 (s .instructions)) lateDeclaration _ u e in
+      let b = past-due (not (declarationRule (declarationAt file (at + 1)))) fieldRuleBroken _ u (a .1) in
+      let c = past-due (overlaps (s .declared) (declarationAt file (at + 1))) overlapping _ u (b .1) in
       subst (λ (v : Seen). Before (at + sizeAt file at) v) (same-taken _ u (c .1))
       (record {
         start = refl;
@@ -244,8 +244,8 @@ module _ (file : List ℕ) where
   given-before : (at : ℕ) (s u : Seen) → Before at s → immediateFinding s file at ≡ taken u → Before (at + sizeAt file at) u
   unfolding immediateFinding withImmediate
   given-before at s u before e =
-      let a = past-due (ltb 0 (s .instructions)) 5 _ u e in
-      let b = past-due (leb 1024 (length (s .immediates))) 6 _ u (a .1) in
+      let a = past-due (ltb 0 (s .instructions)) lateDeclaration _ u e in
+      let b = past-due (leb 1024 (length (s .immediates))) tooMany _ u (a .1) in
       let room : length (s .immediates) < 1024 = leb-false 1024 (length (s .immediates)) (b .0) in
       let four : length (s .immediates) ≡ 4 * before .given .many = before .given .four in
       subst (λ (v : Seen). Before (at + sizeAt file at) v) (same-taken _ u (b .1))

@@ -84,17 +84,17 @@ module _ (file : List ℕ) (at size : ℕ) (sized : size ≡ sizeAt file at) whe
 -- ---- Instructions
 
 module _ (p : Program) (kind : ℕ) (file : List ℕ) (at : ℕ) where
-  pub operand-6 : 1024 ≤ p .instructions → 6 ≡ operandRefusal p kind file at
+  pub operand-6 : 1024 ≤ p .instructions → tooMany ≡ operandRefusal p kind file at
   unfolding operandRefusal
   operand-6 h = rw (le-leb 1024 (p .instructions) h)
 
   module _ (few : p .instructions < 1024) (r : Bool) (rules : r ≡ operandRules kind file at) where
-    pub operand-7 : not r ≡ true → 7 ≡ operandRefusal p kind file at
+    pub operand-7 : not r ≡ true → fieldRuleBroken ≡ operandRefusal p kind file at
     unfolding operandRefusal
     operand-7 e = rw (lt-leb 1024 (p .instructions) few, ← rules, e)
 
     module _ (kept : not r ≡ false) (f : Bool) (found : f ≡ operandsFound kind (isIn (p .declared)) (4 * p .immediates) file at) where
-      pub operand-9 : not f ≡ true → 9 ≡ operandRefusal p kind file at
+      pub operand-9 : not f ≡ true → notDeclared ≡ operandRefusal p kind file at
       unfolding operandRefusal
       operand-9 e = rw (lt-leb 1024 (p .instructions) few, ← rules, kept, ← found, e)
 
@@ -106,7 +106,7 @@ module _ (p : Program) (kind : ℕ) (file : List ℕ) (at : ℕ) where
   room-in : operandRefusal p kind file at ≡ 0 → p .instructions < 1024
   unfolding operandRefusal
   room-in e = leb-false 1024 (p .instructions) (first (leb 1024 (p .instructions)) _ e) where
-    first : (b : Bool) (k : ℕ) → cond b 6 k ≡ 0 → b ≡ false
+    first : (b : Bool) (k : ℕ) → cond b tooMany k ≡ 0 → b ≡ false
     first true k e = absurd (omega arith)
     first false k e = refl
 
@@ -124,7 +124,7 @@ module _ (s : State) (kind : ℕ) (words values file : List ℕ) (at : ℕ) (pad
       (by (leb 1024 (s .program .instructions)) (not (operandRules kind file at)) (not (operandsFound kind (isIn (s .program .declared)) (4 * s .program .immediates) file at)) _)
     where
       by : (a b c : Bool) (f : Finding) → cond a (due tooMany) (cond b (due fieldRuleBroken) (cond c (due notDeclared) f))
-          ≡ cond (eqb (cond a 6 (cond b 7 (cond c 9 0))) 0) f (due (cond a 6 (cond b 7 (cond c 9 0))))
+          ≡ cond (eqb (cond a tooMany (cond b fieldRuleBroken (cond c notDeclared 0))) 0) f (due (cond a tooMany (cond b fieldRuleBroken (cond c notDeclared 0))))
       by true b c f = refl
       by false true c f = refl
       by false false true f = refl

@@ -11,7 +11,7 @@ use borrow.Author.Tests.{lt-ltb, le-ltb, leb-false, eq-eqb, ne-eqb, eqb-true, eq
 use Rattle.format.specs.Kinds.{lengthOf}
 use Rattle.format.specs.Records.{longest, sizeAt}
 use Rattle.format.specs.Fields.{caseWord}
-use Rattle.format.specs.Refusals.{tooLong, byteAfterEnd, nestingBroken, noEnd}
+use Rattle.format.specs.Refusals.{tooLong, byteAfterEnd, unknownKind, bodyCut, tooMany, fieldRuleBroken, notDeclared, nestingBroken, noEnd}
 use Rattle.blocks.specs.Control.{opOf}
 use Rattle.blocks.specs.Nesting.{Open, Ruling, goes, rule}
 use Rattle.blocks.specs.Nesting as nesting
@@ -43,7 +43,7 @@ module _ (s : Seen) (file : List ℕ) (at : ℕ) (u : Seen) (found : recordFindi
   sized-chain : (eqb (sizeAt file at) 0 ≡ false)
       × (cond (eqb (getD file at 0) 0x01) (declarationFinding s file at) (cond (eqb (getD file at 0) 0x02) (immediateFinding s file at) (instructionFinding s file at)) ≡ taken u)
   unfolding recordFinding
-  sized-chain = past-due (eqb (sizeAt file at) 0) 4 _ u (past-due (eqb (lengthOf (getD file at 0)) 255) 3 _ u found .1)
+  sized-chain = past-due (eqb (sizeAt file at) 0) bodyCut _ u (past-due (eqb (lengthOf (getD file at 0)) 255) unknownKind _ u found .1)
 
   pub taken-whole : sizeAt file at ≡ 0 → ⊥
   taken-whole = eqb-false (sizeAt file at) 0 (sized-chain .0)
@@ -74,9 +74,9 @@ passed-by s (nesting.refused n) u e = due-not-taken e
 pub passed : (s : Seen) (file : List ℕ) (at : ℕ) (u : Seen) → instructionFinding s file at ≡ taken u → Passed s file at u
 unfolding instructionFinding
 passed s file at u e =
-    let a = past-due (leb 1024 (s .instructions)) 6 _ u e in
-    let b = past-due (not (operandRules (getD file at 0) file at)) 7 _ u (a .1) in
-    let c = past-due (not (operandsFound (getD file at 0) (s .declared) (length (s .immediates)) file at)) 9 _ u (b .1) in
+    let a = past-due (leb 1024 (s .instructions)) tooMany _ u e in
+    let b = past-due (not (operandRules (getD file at 0) file at)) fieldRuleBroken _ u (a .1) in
+    let c = past-due (not (operandsFound (getD file at 0) (s .declared) (length (s .immediates)) file at)) notDeclared _ u (b .1) in
     let d = passed-by s (rule (opOf (getD file at 0)) (caseWord (s .immediates) file at) (s .blocks)) u (c .1) in
     record {
       few = leb-false 1024 (s .instructions) (a .0);
@@ -190,7 +190,7 @@ pub check-long : (file : List ℕ) → longest < length file → refused tooLong
 unfolding checkOf
 check-long file h = rw (lt-ltb longest (length file) h)
 
-pub check-long-told : (file : List ℕ) → longest < length file → breaks 1 0 ≡ toldOf (checkOf file)
+pub check-long-told : (file : List ℕ) → longest < length file → breaks tooLong 0 ≡ toldOf (checkOf file)
 check-long-told file h = ap toldOf (check-long file h)
 
 pub check-start : (file : List ℕ) (s : Seen) → s ≡ nothing → length file ≤ longest → Going file 0 s
