@@ -12,20 +12,13 @@ use lib.Dec.{eqb, ltb}
 use lib.ListN.{length, take, replicate, length-replicate, getD-replicate, List·getD-append, List·getD-eq-default}
 use lib.Seq.{getD-append-add}
 use Rattle.words.specs.Word.{bitIn}
+use Rattle.words.proofs.WordBits.{bits-past}
 use Rattle.registers.specs.declared.sets.Declared.{Declared}
 use Rattle.registers.specs.Sets.{isIn}
 use Rattle.machine.specs.Bank.{envIn, declaredIn}
 use Rattle.machine.specs.Operands.{envWith, wordIn}
 use Rattle.execution.specs.Steps.{askedIndirectly, bankEnv}
 use Rattle.execution.proofs.Copies.{copy-end}
-
--- Past the words there is no bit.
-no-bit : (l : List ℕ) (i : ℕ) → length l ≤ i / 32 → false ≡ bitIn l i
-unfolding bitIn
-no-bit l i h =
-    sym
-    (ap (λ w. eqb (w / 2 ^ (i % 32) % 2) 1) (List·getD-eq-default l 0 h)
-    ∙ ap (λ q. eqb (q % 2) 1) (zero-div (2 ^ (i % 32))) ∙ ap (λ q. eqb q 1) (zero-mod 2))
 
 module _ (a b : List ℕ) (la : length a ≡ 32) (lb : length b ≡ 8) (i : ℕ) where
   -- The first list has the bits below 1,024, the second those from there on.
@@ -36,7 +29,7 @@ module _ (a b : List ℕ) (la : length a ≡ 32) (lb : length b ≡ 8) (i : ℕ)
       ap (λ w. eqb (w / 2 ^ (i % 32) % 2) 1) (List·getD-append a b 0 (i / 32) (omega arith))
   first-bits false e =
       let above : 1024 ≤ i = ltb-false i 1024 e in
-      no-bit a i (omega arith)
+      bits-past a i (omega arith)
 
   second-bits : (t : Bool) → ltb i 256 ≡ t → t && bitIn (a ++ b) (1024 + i) ≡ bitIn b i
   unfolding bitIn
@@ -46,7 +39,7 @@ module _ (a b : List ℕ) (la : length a ≡ 32) (lb : length b ≡ 8) (i : ℕ)
       rw (word, place) (ap (λ w. eqb (w / 2 ^ (i % 32) % 2) 1) (getD-append-add a b (i / 32) 0))
   second-bits false e =
       let above : 256 ≤ i = ltb-false i 256 e in
-      no-bit b i (omega arith)
+      bits-past b i (omega arith)
 
 module _ (d : Declared) (lc : length (d .consts) ≡ 32) (lt : length (d .temps) ≡ 8) where
   pub asked-is : declaredIn ((d .consts) ++ (d .temps)) ≡ askedIndirectly (isIn d)
