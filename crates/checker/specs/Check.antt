@@ -7,6 +7,7 @@ use lib.Dec.{eqb, ltb}
 use lib.ListN.{length, getD, take, replicate}
 use Rattle.format.specs.Records.{longest, sizeAt}
 use Rattle.format.specs.Refusals.{tooLong, byteAfterEnd, noEnd}
+use Rattle.blocks.specs.Control.{END, kindOf}
 use Rattle.blocks.specs.Nesting.{Open}
 use Rattle.registers.specs.Sets.{isIn}
 use Rattle.checker.specs.Findings.{Seen, nothing, Finding, taken, due, recordFinding}
@@ -20,15 +21,12 @@ pub data Outcome : Type 0 where
   accepted : Seen → Outcome
   refused : ℕ → ℕ → Outcome
 
-abbrev pub END : ℕ
-END = 0x89
-
 -- After the record at a place: "the place is the record's first byte"; "2: a byte follows an END that no later row refuses
 -- (place of that byte)"; after any other record that is taken the rest is checked.
 abbrev pub onward : Finding → List ℕ → ℕ → (Seen → Outcome) → Outcome
 onward (due number) file at rest = refused number at
 onward (taken s) file at rest =
-    cond (eqb (getD file at 0) END) (cond (ltb (at + 1) (length file)) (refused byteAfterEnd (at + 1)) (accepted s)) (rest s)
+    cond (eqb (getD file at 0) (kindOf END)) (cond (ltb (at + 1) (length file)) (refused byteAfterEnd (at + 1)) (accepted s)) (rest s)
 
 -- The records from a place on, at most n of them. "13: file ends without END (place: file length)"
 unfoldable pub walk : ℕ → List ℕ → ℕ → Seen → Outcome

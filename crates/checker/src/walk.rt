@@ -1,4 +1,6 @@
 // The walk over the records: each is taken, or refused with the lowest number that applies.
+use blocks::MOST_INSTRUCTIONS;
+use blocks::control::END;
 use crate::Checked;
 use crate::Verdict;
 use crate::kept;
@@ -47,11 +49,7 @@ pub struct Turn {
     pub way: Way,
 }
 
-const MOST_INSTRUCTIONS: u32 = 1024;
-
 const MOST_IMMEDIATES: u32 = 256;
-
-const END: u8 = 0x89;
 
 // The declaration at a place, which is followed by the place `next`.
 fn declaration(s: State, file: &[u8], at: usize, next: usize) -> Taken
@@ -120,7 +118,7 @@ fn operand_refusal(p: Program, kind: u8, file: &[u8], at: u32) -> u8
     requires { ⌜ p .immediates ≤ 256 ⌝ }
     ensures { λ r. ⌜ r ≡ operandRefusal p kind (now (file .entry)) at ⌝ }
 {
-    if MOST_INSTRUCTIONS <= p.instructions {
+    if MOST_INSTRUCTIONS <= p.instructions as usize {
         return refusals::TOO_MANY;
     }
     if !operands::rules_kept(kind, file, at) {

@@ -8,12 +8,13 @@ use lib.Dec.{eqb, leb, ltb}
 use lib.ListN.{length, drop, replicate}
 use Rattle.format.specs.Records.{sizeAt}
 use Rattle.format.specs.Refusals.{byteAfterEnd, tooMany, fieldRuleBroken, notDeclared}
+use Rattle.blocks.specs.Control.{END, kindOf}
 use Rattle.blocks.specs.Run.{mostInstructions}
 use Rattle.registers.specs.Sets.{isIn}
 use Rattle.registers.specs.Rules.{operandRules}
 use Rattle.registers.specs.Found.{operandsFound}
 use Rattle.checker.specs.Findings.{Seen, Finding, taken, due, mostImmediates, recordFinding}
-use Rattle.checker.specs.Check.{Outcome, accepted, refused, END, onward, programSeen}
+use Rattle.checker.specs.Check.{Outcome, accepted, refused, onward, programSeen}
 use Rattle.checker.specs.declared.Checked.{Checked}
 use Rattle.checker.specs.declared.Verdict.{Verdict}
 use Rattle.checker.specs.declared.Verdict.the-variants.{Accepted, Refused}
@@ -79,7 +80,7 @@ endOf instructions at end = cond (ltb (at + 1) end) (Refused byteAfterEnd (at + 
 -- How the walk goes on after a record of this kind at a place, of which this number was found.
 unfoldable pub wayAfter : ℕ → ℕ → ℕ → ℕ → ℕ → Way
 wayAfter refusal kind instructions at end =
-    cond (eqb refusal 0) (cond (eqb kind END) (Ended (endOf instructions at end)) On) (Ended (Refused refusal at))
+    cond (eqb refusal 0) (cond (eqb kind (kindOf END)) (Ended (endOf instructions at end)) On) (Ended (Refused refusal at))
 
 -- What the walk comes to after a turn, `rest` standing for the rest of it.
 abbrev pub goesOn : Way → Seen → Seen → (Seen → Outcome) → Outcome

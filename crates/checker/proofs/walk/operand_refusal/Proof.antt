@@ -8,6 +8,7 @@ pub operand-refusal-spec : {M : Type 1} → statement M
 operand-refusal-spec =
     tie.close
     (tie.spec
+    (search needs)
     (λ c. search (needs, operand-6))
     (λ c κs. search needs)
     (λ c. search (needs, operand-7))
