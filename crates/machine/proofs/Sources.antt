@@ -12,7 +12,7 @@ use mathlib.Core.Path.{_∙_, _≡_, ap, refl, sym}
 use mathlib.Core.Bool.{Bool, cond, false, true}
 use mathlib.Core.List.{List, [], _∷_}
 use native.Mathlib.Omega.{arith}
-use native.Mathlib.Nat.{add-zero, mod-lt}
+use native.Mathlib.Nat.{mod-lt}
 use borrow.Author.Tests.{le-ltb, lt-ltb, ne-eqb}
 use lib.Dec.{eqb, leb, leb→le, ltb}
 use lib.ListN.{drop, drop-of-length-le, getD, length, length-drop, set, take}
@@ -121,52 +121,31 @@ four-word word first (suc (suc zero)) b = refl
 four-word word first (suc (suc (suc zero))) b = refl
 four-word word first (suc (suc (suc (suc i)))) b = absurd (omega arith)
 
-pub four-words : (l : List ℕ) (first x y z w : ℕ) → x ≡ wordIn l first → y ≡ wordIn l (first + 1) → z ≡ wordIn l (first + 2) → w ≡ wordIn l (first + 3)
-    → x ∷ y ∷ z ∷ w ∷ [] ≡ fourFrom (wordIn l) first
-unfolding components
-four-words l first x y z w ex ey ez ew = cc (add-zero first)
-
--- Four words that were read one by one are picked from as they stand.
-pub pick-apart : (l four v : List ℕ) (first : ℕ) (s : Source) → four ≡ fourFrom (wordIn l) first → v ≡ taken (fourFrom (wordIn four) 0) s
-    → v ≡ taken (fourFrom (wordIn l) first) s
-unfolding components
-pick-apart l four v first s ef ev = ev ∙ ap (λ (q : List ℕ). taken (fourFrom (wordIn q) 0) s) ef
-
 pub selected-below : (swizzle i k : ℕ) → k ≡ selected swizzle i → k < 4
 selected-below swizzle i k e = rw e (mod-lt (swizzle / 2 ^ (2 * i)) (omega arith))
 
-module _ (l : List ℕ) (s : Source) (i j k m : ℕ) (ei : i ≡ selected (s .swizzle) 0) (ej : j ≡ selected (s .swizzle) 1) (ek : k ≡ selected (s .swizzle) 2) (em : m ≡ selected (s .swizzle) 3) where
-  -- the four components, which all go the same way
-  by-way : (f : ℕ → ℕ) → ((w : ℕ) → negated s w ≡ f w) → f (getD l i 0) ∷ f (getD l j 0) ∷ f (getD l k 0) ∷ f (getD l m 0) ∷ [] ≡ taken l s
-  unfolding taken components
-  by-way f h = rw (ei, ej, ek, em) (sym (simp h))
+pub selected-word : (l : List ℕ) (first swizzle i k w : ℕ) → k ≡ selected swizzle i → w ≡ getD l (first + k) 0 → w ≡ wordIn l (first + selected swizzle i)
+selected-word l first swizzle i k w ek ew = ew ∙ ap (λ (n : ℕ). getD l (first + n) 0) ek
 
-  module _ (t : Bool) (et : t ≡ negates s) where
-    taken-plain : t ≡ false → getD l i 0 ∷ getD l j 0 ∷ getD l k 0 ∷ getD l m 0 ∷ [] ≡ taken l s
-    taken-plain h = by-way (λ w. w) (λ w. rw (← et, h))
-
-    taken-negated : (x y z w : ℕ) → t ≡ true → x ≡ neg 32 (getD l i 0) → y ≡ neg 32 (getD l j 0) → z ≡ neg 32 (getD l k 0) → w ≡ neg 32 (getD l m 0)
-        → x ∷ y ∷ z ∷ w ∷ [] ≡ taken l s
-    taken-negated x y z w h ex ey ez ew = rw (ex, ey, ez, ew) (by-way (neg 32) (λ w. rw (← et, h)))
-
-pub word-there : (l : List ℕ) (first swizzle i k : ℕ) → first + 4 ≤ length l → k ≡ selected swizzle i → first + k < length l
-word-there l first swizzle i k there e = omega (arith, selected-below swizzle i k e)
-
-module _ (l : List ℕ) (first : ℕ) (s : Source) (i j k m : ℕ)
-    (ei : i ≡ selected (s .swizzle) 0) (ej : j ≡ selected (s .swizzle) 1) (ek : k ≡ selected (s .swizzle) 2) (em : m ≡ selected (s .swizzle) 3)
+module _ (l : List ℕ) (first : ℕ) (s : Source) (x y z w : ℕ)
+    (ex : x ≡ wordIn l (first + selected (s .swizzle) 0)) (ey : y ≡ wordIn l (first + selected (s .swizzle) 1))
+    (ez : z ≡ wordIn l (first + selected (s .swizzle) 2)) (ew : w ≡ wordIn l (first + selected (s .swizzle) 3))
+    (t : Bool) (et : t ≡ negates s)
   where
-    word : (c n : ℕ) → n ≡ selected (s .swizzle) c → wordIn l (first + n) ≡ wordIn (fourFrom (wordIn l) first) n
-    word c n e = four-word (wordIn l) first n (selected-below (s .swizzle) c n e)
+    word : (c : ℕ) → wordIn l (first + selected (s .swizzle) c) ≡ wordIn (fourFrom (wordIn l) first) (selected (s .swizzle) c)
+    word c = four-word (wordIn l) first (selected (s .swizzle) c) (selected-below (s .swizzle) c (selected (s .swizzle) c) refl)
 
-    module _ (t : Bool) (et : t ≡ negates s) where
-      pub pick-plain : t ≡ false → wordIn l (first + i) ∷ wordIn l (first + j) ∷ wordIn l (first + k) ∷ wordIn l (first + m) ∷ [] ≡ taken (fourFrom (wordIn l) first) s
-      pick-plain h = rw (word 0 i ei, word 1 j ej, word 2 k ek, word 3 m em) (taken-plain (fourFrom (wordIn l) first) s i j k m ei ej ek em t et h)
+    -- the four components, which all go the same way
+    by-way : (f : ℕ → ℕ) → ((v : ℕ) → negated s v ≡ f v) → f x ∷ f y ∷ f z ∷ f w ∷ [] ≡ taken (fourFrom (wordIn l) first) s
+    unfolding taken components
+    by-way f h = rw (ex, ey, ez, ew, word 0, word 1, word 2, word 3) (sym (simp h))
 
-      pub pick-negated : (x y z w : ℕ) → t ≡ true → x ≡ neg 32 (wordIn l (first + i)) → y ≡ neg 32 (wordIn l (first + j)) → z ≡ neg 32 (wordIn l (first + k)) → w ≡ neg 32 (wordIn l (first + m))
-          → x ∷ y ∷ z ∷ w ∷ [] ≡ taken (fourFrom (wordIn l) first) s
-      pick-negated x y z w h ex ey ez ew =
-          taken-negated (fourFrom (wordIn l) first) s i j k m ei ej ek em t et x y z w h
-          (ex ∙ ap (neg 32) (word 0 i ei)) (ey ∙ ap (neg 32) (word 1 j ej)) (ez ∙ ap (neg 32) (word 2 k ek)) (ew ∙ ap (neg 32) (word 3 m em))
+    pub pick-plain : t ≡ false → x ∷ y ∷ z ∷ w ∷ [] ≡ taken (fourFrom (wordIn l) first) s
+    pick-plain h = by-way (λ v. v) (λ v. rw (← et, h))
+
+    pub pick-negated : (x′ y′ z′ w′ : ℕ) → t ≡ true → x′ ≡ neg 32 x → y′ ≡ neg 32 y → z′ ≡ neg 32 z → w′ ≡ neg 32 w
+        → x′ ∷ y′ ∷ z′ ∷ w′ ∷ [] ≡ taken (fourFrom (wordIn l) first) s
+    pick-negated x′ y′ z′ w′ h fx fy fz fw = rw (fx, fy, fz, fw) (by-way (neg 32) (λ v. rw (← et, h)))
 
 -- ---- the register of each file
 

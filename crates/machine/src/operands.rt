@@ -17,9 +17,8 @@ use format::kinds::sources_of;
 use words::bits::bit_in;
 use words::sums::neg32;
 ghost use mathlib.Core.Path.{_≡_};
-ghost use Prim.Native.Nat.{_+_, _<_, _≤_, _^_};
+ghost use Prim.Native.Nat.{_+_, _<_, _^_};
 ghost use lib.IntN.{pos, _+ℤ_};
-ghost use lib.ListN.{length};
 ghost use Rattle.words.specs.Word.{signed};
 ghost use Rattle.machine.specs.Operands.{wordIn, ifDeclared, registerOf, selected, fourFrom, registerWords, taken, sourceOf, kindByte, sourcesOf};
 ghost use Rattle.machine.specs.Inner.Parts.{noSources};
@@ -92,45 +91,28 @@ fn select(swizzle: u8, i: u8) -> u8
     (swizzle >> (2 * i)) % 4
 }
 
-// What a source takes of the four words from `first` on, which are all there.
-fn pick_in(words: &[u32], first: usize, s: Source) -> [u32; 4]
-    requires { ⌜ first + 4 ≤ length (now words) ⌝ }
+// The word that a swizzle selects for component i, of the four from `first` on.
+fn selected_word(words: &[u32], first: usize, swizzle: u8, i: u8) -> u32
+    requires { ⌜ (first < 2 ^ 40) × (i < 4) ⌝ }
+    ensures { λ r. ⌜ r ≡ wordIn (now (words .entry)) (first + selected swizzle i) ⌝ }
+{
+    word_at(words, first + select(swizzle, i) as usize)
+}
+
+// What a source takes of the four words from `first` on.
+fn pick(words: &[u32], first: usize, s: Source) -> [u32; 4]
+    requires { ⌜ first < 2 ^ 40 ⌝ }
     ensures { λ r. ⌜ r ≡ taken (fourFrom (wordIn (now (words .entry))) first) s ⌝ }
 {
-    let x = words[first + select(s.swizzle, 0) as usize];
-    let y = words[first + select(s.swizzle, 1) as usize];
-    let z = words[first + select(s.swizzle, 2) as usize];
-    let w = words[first + select(s.swizzle, 3) as usize];
+    let x = selected_word(words, first, s.swizzle, 0);
+    let y = selected_word(words, first, s.swizzle, 1);
+    let z = selected_word(words, first, s.swizzle, 2);
+    let w = selected_word(words, first, s.swizzle, 3);
     if negates(s) {
         [neg32(x), neg32(y), neg32(z), neg32(w)]
     } else {
         [x, y, z, w]
     }
-}
-
-// The four words from `first` on, 0 for those that are not there.
-fn four_from(words: &[u32], first: usize) -> [u32; 4]
-    requires { ⌜ first < 2 ^ 40 ⌝ }
-    ensures { λ r. ⌜ r ≡ fourFrom (wordIn (now (words .entry))) first ⌝ }
-{
-    [
-        word_at(words, first),
-        word_at(words, first + 1),
-        word_at(words, first + 2),
-        word_at(words, first + 3),
-    ]
-}
-
-// What a source takes of the four words from `first` on: one comparison where they are all there.
-fn pick(words: &[u32], first: usize, s: Source) -> [u32; 4]
-    requires { ⌜ first < 2 ^ 40 ⌝ }
-    ensures { λ r. ⌜ r ≡ taken (fourFrom (wordIn (now (words .entry))) first) s ⌝ }
-{
-    if words.len() < first + 4 {
-        let four = four_from(words, first);
-        return pick_in(&four, 0, s);
-    }
-    pick_in(words, first, s)
 }
 
 // What a source takes of register n of its file.

@@ -1,5 +1,5 @@
--- Of words that are there, or of four that were read one by one.
-use Rattle.machine.proofs.Sources.{pick-apart}
+-- The four components, negated or not.
+use Rattle.machine.proofs.Sources.{pick-negated, pick-plain}
 use borrow.Author.Needs.{needs}
 use Rattle.machine.proofs.operands.pick.Statement.{statement}
 use Rattle.machine.proofs.operands.pick.Tie as tie
@@ -9,6 +9,6 @@ pick-spec =
     tie.close
     (tie.spec
     (search needs) (search needs) (search needs) (search needs)
-    (λ c. search (needs, pick-apart))
-    (search needs)
-    (λ c. search needs))
+    (search needs) (search needs) (search needs) (search needs) (search needs)
+    (λ c. search (needs, pick-negated))
+    (λ c. search (needs, pick-plain)))
