@@ -12,29 +12,24 @@ use Rattle.format.specs.Refusals.{inputsShort, constantsShort, registersShort, 
 use Rattle.blocks.specs.Table.{rowWords}
 use Rattle.checker.specs.declared.Checked.{Checked}
 use Rattle.checker.specs.declared.Verdict.the-variants.{Accepted, Refused}
-use Rattle.checker.specs.Check.{Outcome, accepted, refused, checkOf, programSeen, wordsAfter, examinedAs, examined}
+use Rattle.checker.specs.Check.{Outcome, accepted, refused, checkOf, programSeen, examinedAs, examined}
 use Rattle.checker.specs.Findings.{Seen}
 use Rattle.checker.specs.Inner.Held.{concluded}
-use Rattle.checker.proofs.Examining.{outcome-is, words-are}
+use Rattle.checker.proofs.Examining.{outcome-is}
 use Rattle.admission.specs.declared.Sizes.{Sizes}
 use Rattle.admission.specs.Admission.{workShort, lentRefusal, admitted, admissionOf}
 
 -- ---- What the function answers
 
--- What `admit` promises: after a refusal for what is lent the words are what the check left.
-abbrev Answers : Checked → List ℕ → List ℕ → List ℕ → Sizes → Type 0
-Answers c words before file lent = examinedAs c words ≡ examined (admissionOf file lent) (wordsAfter (checkOf file) before)
-
-module _ (file words before : List ℕ) (c : Checked) (lent : Sizes) (said : examinedAs c words ≡ examined (checkOf file) before) where
-  by-check : (o : Outcome) → checkOf file ≡ o → examined o before ≡ examined (admitted o lent) (wordsAfter o before) → Answers c words before file lent
-  unfolding admissionOf
-  by-check o e same = said ∙ rw e same
-
+-- The check of the file over words of its own, `none` before it; `before` is what was lent.
+module _ (file words none before : List ℕ) (c : Checked) (lent : Sizes) (said : examinedAs c words ≡ examined (checkOf file) none) where
   concludes : (o : Outcome) → concluded (c .verdict) (programSeen (c .program) words []) ≡ o → checkOf file ≡ o
-  concludes o e = sym (outcome-is c words before (checkOf file) said) ∙ e
+  concludes o e = sym (outcome-is c words none (checkOf file) said) ∙ e
 
-  pub check-refuses : (number place : ℕ) → c .verdict ≡ Refused number place → Answers c words before file lent
-  check-refuses number place e = by-check (refused number place) (concludes (refused number place) (rw e)) refl
+  pub check-refuses : (number place : ℕ) (r : Checked) → c .verdict ≡ Refused number place → examinedAs r before ≡ examined (refused number place) before
+      → examinedAs r before ≡ examined (admissionOf file lent) before
+  unfolding admissionOf
+  check-refuses number place r e is = is ∙ rw (concludes (refused number place) (rw e))
 
   module _ (n : ℕ) (e : c .verdict ≡ Accepted n) (due : ℕ) (due-is : due ≡ lentRefusal (programSeen (c .program) [] []) lent) where
     abbrev seen : Seen
@@ -43,16 +38,13 @@ module _ (file words before : List ℕ) (c : Checked) (lent : Sizes) (said : exa
     is-accepted : checkOf file ≡ accepted seen
     is-accepted = concludes (accepted seen) (rw e)
 
-    pub lent-refuses : (r : Checked) → (due ≡ 0 → ⊥) → examinedAs r words ≡ examined (refused due 0) words → Answers r words before file lent
+    pub lent-refuses : (r : Checked) → (due ≡ 0 → ⊥) → examinedAs r before ≡ examined (refused due 0) before → examinedAs r before ≡ examined (admissionOf file lent) before
     unfolding admissionOf lentRefusal
-    lent-refuses r h is =
-        let due-so : refused due 0 ≡ admissionOf file lent = rw (is-accepted, ← due-is, ne-eqb due 0 h) in
-        is ∙ ap (examined (refused due 0)) (words-are c words before (checkOf file) said)
-        ∙ ap (λ (o : Outcome). examined o (wordsAfter (checkOf file) before)) due-so
+    lent-refuses r h is = is ∙ rw (is-accepted, ← due-is, ne-eqb due 0 h)
 
-    pub admits : due ≡ 0 → Answers c words before file lent
-    unfolding lentRefusal
-    admits h = by-check (accepted seen) is-accepted (rw (← due-is, h))
+    pub admits : due ≡ 0 → examinedAs c words ≡ examined (admissionOf file lent) before
+    unfolding admissionOf lentRefusal
+    admits h = said ∙ rw (is-accepted, ← due-is, h)
 
 -- ---- What an admitted program says
 

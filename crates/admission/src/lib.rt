@@ -9,7 +9,7 @@ use format::files::REGISTER_WORDS;
 use format::refusals;
 ghost use mathlib.Core.Path.{_≡_};
 ghost use mathlib.Core.List.{[]};
-ghost use Rattle.checker.specs.Check.{checkOf, programSeen, wordsAfter, examinedAs, examined};
+ghost use Rattle.checker.specs.Check.{programSeen, examinedAs, examined};
 ghost use Rattle.admission.specs.Admission.{lentRefusal, admissionOf};
 
 const MOST_MEMORY_WORDS: usize = 16384;
@@ -42,21 +42,24 @@ fn refusal(program: Program, sizes: Sizes) -> u8
     }
 }
 
-// What the check says of a file, and the refusal for what is lent where it is accepted. The immediates' words are the check's.
+// What the check says of a file, and the refusal for what is lent where it is accepted. The immediates' words are lent out where the
+// program is admitted; after a refusal the lent words stay.
 pub fn admit(file: &[u8], sizes: Sizes, immediates: &mut [u32; 1024]) -> Checked
-    ensures { λ r. ⌜ examinedAs r (now (immediates .exit)) ≡ examined (admissionOf (now (file .entry)) sizes) (wordsAfter (checkOf (now (file .entry))) (now (immediates .entry))) ⌝ }
+    ensures { λ r. ⌜ examinedAs r (now (immediates .exit)) ≡ examined (admissionOf (now (file .entry)) sizes) (now (immediates .entry)) ⌝ }
 {
-    let checked = examine(file, immediates);
+    let mut words = [0u32; 1024];
+    let checked = examine(file, &mut words);
     let verdict = checked.verdict;
     let program = checked.program;
     match verdict {
-        Verdict::Refused(_, _) => checked,
+        Verdict::Refused(number, place) => refused(number, place),
         Verdict::Accepted(_) => {
             let number = refusal(program, sizes);
-            if number == 0 {
-                return checked;
+            if number != 0 {
+                return refused(number, 0);
             }
-            refused(number, 0)
+            *immediates = words;
+            checked
         }
     }
 }

@@ -31,16 +31,16 @@ pub ran-is :
     (a : Library) (r : Answer) (words : Lent) (x : Result) → r ≡ answerOf a → after a words ≡ x → afterRun r words ≡ resultInWords x
 ran-is a r words x h e = rw h (ap resultInWords e)
 
-within-words : (budget : ℕ) (a : Library) → Answered budget a → stepsIn (answerOf a) ≤ budget
+within-words : (budget : ℕ) (a : Library) → Answered budget a → (answerOf a .status ≤ 2) × (stepsIn (answerOf a) ≤ budget)
 within-words budget (said (follows instructions)) h = absurd h
-within-words budget (said (breaks number place)) h = omega arith
-within-words budget (end report) h = h
-within-words budget (halt report next) h = h .0
+within-words budget (said (breaks number place)) h = (omega arith, omega arith)
+within-words budget (end report) h = (omega arith, h)
+within-words budget (halt report next) h = (omega arith, h .0)
 within-words budget unanswered h = absurd h
 
--- "never above budget" (01, Forms for specific places)
+-- A run is done, halted or refused, and its count is "never above budget" (01, Forms for specific places).
 pub ran-within : (file inputs constants : List ℕ) (over left : Lent) (budget : ℕ) (a : Library) (r : Answer)
-    → r ≡ answerOf a → after a left ≡ runOf file inputs constants over budget → stepsIn r ≤ budget
+    → r ≡ answerOf a → after a left ≡ runOf file inputs constants over budget → (r .status ≤ 2) × (stepsIn r ≤ budget)
 ran-within file inputs constants over left budget a r h e =
     rw h (within-words budget a (subst (Answered budget) (sym (ap (λ (x : Result). x .answer) e)) (run-answers file inputs constants over budget)))
 

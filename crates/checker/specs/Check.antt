@@ -10,7 +10,7 @@ use Rattle.format.specs.Refusals.{tooLong, byteAfterEnd, noEnd}
 use Rattle.blocks.specs.Control.{END, kindOf}
 use Rattle.blocks.specs.Nesting.{Open}
 use Rattle.registers.specs.Sets.{isIn}
-use Rattle.checker.specs.Findings.{Seen, nothing, Finding, taken, due, recordFinding}
+use Rattle.checker.specs.Findings.{mostImmediates, Seen, nothing, Finding, taken, due, recordFinding}
 use Rattle.checker.specs.declared.Verdict.{Verdict}
 use Rattle.checker.specs.declared.Verdict.the-variants.{Accepted, Refused}
 use Rattle.checker.specs.declared.Checked.{Checked}
@@ -70,7 +70,7 @@ programSeen p words blocks =
 -- What the 1,024 lent words hold after the check: where the program is accepted the immediates' words in order, and 0 after
 -- them, and what they held before otherwise.
 abbrev pub wordsAfter : Outcome → List ℕ → List ℕ
-wordsAfter (accepted s) words = s .immediates ++ replicate (1024 - length (s .immediates)) 0
+wordsAfter (accepted s) words = s .immediates ++ replicate (4 * mostImmediates - length (s .immediates)) 0
 wordsAfter (refused number place) words = words
 
 -- What was seen of a program that is accepted; nothing of one that is refused.

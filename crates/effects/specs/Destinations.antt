@@ -5,7 +5,7 @@ use mathlib.Core.Bool.{cond}
 use mathlib.Core.List.{List, [], _∷_}
 use lib.Dec.{eqb}
 use lib.ListN.{getD, set}
-use Rattle.words.specs.Word.{bit}
+use Rattle.words.specs.Word.{isSet}
 use Rattle.format.specs.Files.{OUT, TEMP, tempFrom, addrFrom}
 use Rattle.format.specs.declared.fields.Destination.{Destination}
 
@@ -25,7 +25,7 @@ zeros = 0 ∷ 0 ∷ 0 ∷ 0 ∷ []
 -- "mask 1 (bit 0 is x)" (01, The program file); "unmasked components stay" (01, Instruction corners): `put i` for each
 -- component i in the mask.
 unfoldable pub ifMasked : ℕ → ℕ → (ℕ → List ℕ → List ℕ) → List ℕ → List ℕ
-ifMasked mask i put l = cond (eqb (bit mask i) 1) (put i l) l
+ifMasked mask i put l = cond (isSet mask i) (put i l) l
 
 unfoldable pub masked : ℕ → (ℕ → List ℕ → List ℕ) → List ℕ → List ℕ
 masked mask put l = ifMasked mask 3 put (ifMasked mask 2 put (ifMasked mask 1 put (ifMasked mask 0 put l)))

@@ -7,15 +7,14 @@ use format::files::TEMP;
 use format::files::TEMP_FROM;
 ghost use mathlib.Core.Path.{_≡_};
 ghost use Prim.Native.Nat.{_+_, _<_};
-ghost use lib.Dec.{eqb};
 ghost use lib.ListN.{set};
-ghost use Rattle.words.specs.Word.{bit};
+ghost use Rattle.words.specs.Word.{isSet};
 ghost use Rattle.effects.specs.Destinations.{ifMasked, masked, firstWord, placed};
 
 // Whether a mask has component i.
 pub fn is_masked(mask: u8, i: u8) -> bool
     requires { ⌜ i < 8 ⌝ }
-    ensures { λ r. ⌜ r ≡ eqb (bit mask i) 1 ⌝ }
+    ensures { λ r. ⌜ r ≡ isSet mask i ⌝ }
 {
     (mask >> i) % 2 == 1
 }

@@ -14,6 +14,7 @@ use lib.ListN.{length, getD, set, take, drop, replicate, length-append, length-t
 use lib.Seq.{take-all, take-suc, take-suc-set, getD-append-add}
 use Rattle.format.specs.Files.{lentRegisters}
 use Rattle.execution.specs.Program.{cleared}
+use Rattle.execution.specs.Steps.{zeroed}
 
 -- ---- Clearing
 
@@ -43,14 +44,20 @@ module _ (r₀ r : List ℕ) (i end : ℕ) (done : r ≡ replicate i 0 ++ drop i
   clear-more h =
       ap (λ (l : List ℕ). set l i 0) done ∙ fill-more i 0 r₀ (omega (arith, min-le-right lentRegisters (length r₀)))
 
-  pub clear-end : i ≤ end → end ≤ i → r ≡ cleared r₀
-  unfolding cleared
+  pub clear-end : i ≤ end → end ≤ i → r ≡ zeroed r₀
+  unfolding zeroed
   clear-end h k =
       let all : i ≡ min lentRegisters (length r₀) = omega arith in
       done
       ∙ ap (λ (n : ℕ). replicate n 0 ++ drop n r₀) all
       ∙ ap (λ (l : List ℕ). replicate (min lentRegisters (length r₀)) 0 ++ l) (drop-least lentRegisters r₀)
       ∙ ap (λ (n : ℕ). replicate n 0 ++ drop lentRegisters r₀) (sym (length-take lentRegisters r₀))
+
+-- Where all registers are lent.
+pub zeroed-is : (registers : List ℕ) → lentRegisters ≤ length registers → zeroed registers ≡ cleared registers
+unfolding zeroed cleared
+zeroed-is registers h =
+    ap (λ (n : ℕ). replicate n 0 ++ drop lentRegisters registers) (length-take lentRegisters registers ∙ min-eq-left h)
 
 -- ---- One list behind the other
 

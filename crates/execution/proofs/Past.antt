@@ -3,13 +3,12 @@
 -- Assumes nothing.
 use mathlib.Core.Path.{_≡_, refl, ap, _∙_, subst}
 use mathlib.Core.Bool.{Bool, true, false, cond, _&&_}
-use mathlib.Core.List.{List, [], _++_, append-nil}
-use Prim.Native.Nat.{ℕ, _+_, _-_, _*_, _<_, _≤_, min}
+use mathlib.Core.List.{List, []}
+use Prim.Native.Nat.{ℕ, _+_, _-_, _*_, _<_, _≤_}
 use native.Mathlib.Omega.{arith}
-use native.Mathlib.Nat.{min-eq-left, min-eq-right}
-use borrow.Author.Tests.{eqb-true, eqb-false, leb-true, leb-false}
+use borrow.Author.Tests.{eqb-true, eqb-false, leb-true}
 use lib.Dec.{T, eqb, eqb→eq, leb}
-use lib.ListN.{length, getD, take, drop, replicate, length-replicate, length-take, drop-of-length-le}
+use lib.ListN.{length, getD, drop, replicate, length-replicate}
 use lib.Seq.{drop-at, drop-set-lt, getD-drop}
 use Rattle.words.specs.Word.{bit}
 use Rattle.format.specs.Fields.{word16, destinationAt}
@@ -161,21 +160,6 @@ module _ (file : List ℕ) (s : Seen) (ok : checkOf file ≡ accepted s) (inputs
       (λ n t h same. effect-keeps n h t (drop lentRegisters (from .registers)) same) (opFrom file (s .start)) from refl
 
 -- "clears these and no word past them" (01, Register files)
-module _ (registers : List ℕ) where
-  abbrev zeroed : List ℕ
-  zeroed = replicate (length (take lentRegisters registers)) 0
-
-  zeroed-long : length zeroed ≡ min lentRegisters (length registers)
-  zeroed-long = length-replicate {A = ℕ} (length (take lentRegisters registers)) 0 ∙ length-take lentRegisters registers
-
 pub cleared-past : (registers : List ℕ) → drop lentRegisters (cleared registers) ≡ drop lentRegisters registers
 unfolding cleared
-cleared-past registers = by (leb lentRegisters (length registers)) refl
-  where
-    by : (t : Bool) → leb lentRegisters (length registers) ≡ t → drop lentRegisters ((zeroed registers) ++ drop lentRegisters registers) ≡ drop lentRegisters registers
-    by true e = drop-at (zeroed registers) (drop lentRegisters registers) lentRegisters (zeroed-long registers ∙ min-eq-left (leb-true _ _ e))
-    by false e =
-        let short : length registers < lentRegisters = leb-false _ _ e in
-        let least : min lentRegisters (length registers) ≡ length registers = min-eq-right (omega arith) in
-        rw (drop-of-length-le registers {i = lentRegisters} (omega arith), append-nil (zeroed registers))
-        (drop-of-length-le (zeroed registers) {i = lentRegisters} (omega (arith, zeroed-long registers)))
+cleared-past registers = drop-at (replicate lentRegisters 0) (drop lentRegisters registers) lentRegisters (length-replicate {A = ℕ} lentRegisters 0)

@@ -15,7 +15,7 @@ use Rattle.checker.specs.Check.{accepted, checkOf}
 use Rattle.checker.specs.Findings.{Seen}
 use Rattle.checker.proofs.Followed.{followed}
 use Rattle.execution.specs.Program.{placeOf}
-use Rattle.execution.specs.Steps.{Right}
+use Rattle.execution.specs.Inner.Right.{Right}
 
 module _ (s : Seen) (file : List ℕ) (ok : checkOf file ≡ accepted s) (work : List ℕ) (room : rowWords * s .instructions ≤ length work) where
   abbrev value : ℕ → ℕ

@@ -1,2 +1,3 @@
 pub mod Program
 pub mod Steps
+pub mod Inner

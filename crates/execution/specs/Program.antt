@@ -2,7 +2,7 @@
 -- Assumes nothing.
 use Prim.Native.Nat.{ℕ}
 use mathlib.Core.List.{List, _++_}
-use lib.ListN.{length, take, drop, replicate}
+use lib.ListN.{drop, replicate}
 use Rattle.format.specs.Files.{lentRegisters}
 use Rattle.format.specs.Records.{placeFrom}
 use Rattle.blocks.specs.Control.{Machine}
@@ -30,7 +30,7 @@ programOf s file inputs constants = machineOf (envOf s inputs constants) file (p
 
 -- "A run checks, prepares, clears these and no word past them, then carries out." (01, Register files)
 unfoldable pub cleared : List ℕ → List ℕ
-cleared registers = replicate (length (take lentRegisters registers)) 0 ++ drop lentRegisters registers
+cleared registers = replicate lentRegisters 0 ++ drop lentRegisters registers
 
 -- The block reading from a state. "It is given the file, inputs, constants, memory and budget, and nothing of the table."
 unfoldable pub carriedOut : Seen → List ℕ → List ℕ → List ℕ → ℕ → State → Reading State

@@ -1,24 +1,20 @@
 -- Carrying out by the rows of a table that stand in lent words, over the bank: what the functions of this crate leave.
 -- Assumes nothing.
-use Prim.Native.Nat.{ℕ, zero, suc, _<_}
-use mathlib.Core.Path.{_≡_}
+use Prim.Native.Nat.{ℕ, zero, suc}
 use mathlib.Core.Bool.{Bool, cond, _&&_, _||_}
-use mathlib.Core.List.{List}
+use mathlib.Core.List.{List, _++_}
 use lib.Dec.{eqb, ltb}
-use lib.ListN.{take}
-use Rattle.format.specs.Files.{CONST, TEMP}
+use lib.ListN.{length, take, drop, replicate}
+use Rattle.format.specs.Files.{CONST, TEMP, lentRegisters}
 use Rattle.blocks.specs.Control.{Machine}
 use Rattle.blocks.specs.Reading.{Reading, ended, halted}
 use Rattle.blocks.specs.Run.{mostInstructions, follow, step}
-use Rattle.blocks.specs.Table.{rowAt, rowIn, placeIn, table}
-use Rattle.table.specs.Prepared.{opFrom}
-use Rattle.checker.specs.Findings.{Seen}
+use Rattle.blocks.specs.Table.{rowIn, placeIn}
 use Rattle.effects.specs.Destinations.{State}
 use Rattle.machine.specs.Operands.{Env, envWith}
 use Rattle.machine.specs.Step.{machineOf}
 use Rattle.execution.specs.declared.Report.{Report}
 use Rattle.execution.specs.declared.Stop.{Stop}
-use Rattle.execution.specs.Program.{placeOf, listsOf}
 
 -- ---- What is read
 
@@ -30,6 +26,13 @@ askedIndirectly declared f i = (eqb f CONST || eqb f TEMP) && declared f i
 -- tell it from `envOf` (the law `banked-alike`).
 abbrev pub bankEnv : (ℕ → ℕ → Bool) → List ℕ → List ℕ → List ℕ → Env
 bankEnv declared immediates inputs constants = envWith (askedIndirectly declared) immediates (take 128 inputs) (take 4096 constants)
+
+-- ---- What is cleared
+
+-- Of lent words the registers' are set to 0, as many as there are. A run has them all, by refusal 22, and that is `cleared` (the law
+-- `zeroed-is`).
+unfoldable pub zeroed : List ℕ → List ℕ
+zeroed registers = replicate (length (take lentRegisters registers)) 0 ++ drop lentRegisters registers
 
 -- ---- The run by rows
 
@@ -54,9 +57,3 @@ module _ (file rows : List ℕ) (e : Env) where
       cond (ltb n mostInstructions)
       (follow (byRows left (suc c)) (suc c) (step machineBy (rowIn rows) n s .next) (step machineBy (rowIn rows) n s .state))
       (halted n c s)
-
--- The rows in lent words are right for a program: of each of its instructions the byte place, and the row of the table. Then the run
--- by them is the block reading (`rows-read`).
-pub record Right (s : Seen) (file rows : List ℕ) : Type 0 where
-  pub places : (n : ℕ) → n < s .instructions → placeIn rows n ≡ placeOf s file n
-  pub steers : (n : ℕ) → n < s .instructions → rowIn rows n ≡ rowAt (table (opFrom file (s .start)) (listsOf s file)) n

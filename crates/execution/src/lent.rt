@@ -10,8 +10,7 @@ ghost use lib.ListN.{getD};
 ghost use Rattle.format.specs.Files.{lentRegisters};
 ghost use Rattle.registers.specs.Sets.{isIn};
 ghost use Rattle.machine.specs.Bank.{envIn, declaredIn};
-ghost use Rattle.execution.specs.Program.{cleared};
-ghost use Rattle.execution.specs.Steps.{askedIndirectly, bankEnv};
+ghost use Rattle.execution.specs.Steps.{askedIndirectly, bankEnv, zeroed};
 
 // How many of so many lent words are words of registers.
 fn register_words(lent: usize) -> usize
@@ -26,7 +25,7 @@ fn register_words(lent: usize) -> usize
 
 // Sets the register words to 0, and no word past them.
 pub fn clear(registers: &mut [u32])
-    ensures { λ r. ⌜ now (registers .exit) ≡ cleared (now (registers .entry)) ⌝ }
+    ensures { λ r. ⌜ now (registers .exit) ≡ zeroed (now (registers .entry)) ⌝ }
 {
     let end = register_words(registers.len());
     let mut i: usize = 0;

@@ -1,3 +1,3 @@
--- What the crate's functions promise each other: no public contract cites it.
+-- What functions and laws of the library promise each other: no public contract cites it.
 -- Assumes nothing.
 pub mod Parts

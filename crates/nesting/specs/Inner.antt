@@ -1,2 +1,4 @@
+-- What functions and laws of the library promise each other: no public contract cites it.
+-- Assumes nothing.
 pub mod Tree
 pub mod Held

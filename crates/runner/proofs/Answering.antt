@@ -23,14 +23,15 @@ use Rattle.checker.proofs.Followed.{followed}
 use Rattle.effects.specs.Destinations.{State}
 use Rattle.effects.specs.Effect.{state}
 use Rattle.machine.specs.Bank.{envIn}
-use Rattle.machine.specs.Operands.{Env}
 use Rattle.admission.specs.Admission.{admissionOf}
 use Rattle.admission.proofs.Admitting.{Admitted, admitted-is, lent-enough}
 use Rattle.execution.specs.declared.Report.{Report}
 use Rattle.execution.specs.declared.Stop.{Stop}
 use Rattle.execution.specs.Program.{cleared, carriedOut}
-use Rattle.execution.specs.Steps.{bankEnv, reached, byRows, Right}
-use Rattle.execution.proofs.Demand.{rows-read, halts-inside}
+use Rattle.execution.specs.Steps.{bankEnv, zeroed, reached, byRows}
+use Rattle.execution.specs.Inner.Right.{Right}
+use Rattle.execution.proofs.Copies.{zeroed-is}
+use Rattle.execution.proofs.Demand.{came-read, halts-inside}
 use Rattle.execution.proofs.Indirect.{padded-words}
 use Rattle.execution.proofs.Rows.{prepared-right}
 use Rattle.runner.specs.declared.Outcome.{Outcome}
@@ -98,7 +99,7 @@ near-fits stop report next near e =
 pub answered-halted : (stop : Stop) (report : Report) (next : ℕ) → stop ≡ Stop.Halted report next → runAnswer (Outcome.Halted report next) ≡ stopAnswer stop
 answered-halted stop report next e = rw e
 
-pub came-cleared : (file rows bank registers cl memory : List ℕ) (budget : ℕ) (stop : Stop) (r′ m′ : List ℕ) → cl ≡ cleared registers
+pub came-cleared : (file rows bank registers cl memory : List ℕ) (budget : ℕ) (stop : Stop) (r′ m′ : List ℕ) → cl ≡ zeroed registers
     → reached stop (state r′ m′) ≡ byRows file rows (envIn bank) budget 0 0 (state cl memory)
     → Came file rows bank registers memory budget stop r′ m′
 came-cleared file rows bank registers cl memory budget stop r′ m′ clear came = record { is = rw clear at came }
@@ -129,9 +130,9 @@ module _ (p : Program) (immediates file inputs constants registers work memory :
         module _ (budget : ℕ) (stop : Stop) (r′ m′ : List ℕ) (came : Came file w bank registers memory budget stop r′ m′) where
           carried : reached stop (state r′ m′) ≡ carriedOut seen file inputs constants budget (state (cleared registers) memory)
           carried =
-              came .is
-              ∙ ap (λ (e : Env). byRows file w e budget 0 0 (state (cleared registers) memory)) (gathered ∙ rw (admits .padded))
-              ∙ rows-read seen file (holds .follows) inputs constants w right budget (state (cleared registers) memory)
+              came-read seen file (holds .follows) inputs constants w right bank budget (state (cleared registers) memory) (reached stop (state r′ m′))
+              (gathered ∙ rw (admits .padded))
+              (came .is ∙ ap (λ (l : List ℕ). byRows file w (envIn bank) budget 0 0 (state l memory)) (zeroed-is registers (fits .0)))
 
           pub near-stop : Near stop
           near-stop = by stop refl

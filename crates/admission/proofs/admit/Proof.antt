@@ -9,8 +9,7 @@ pub admit-spec : {M : Type 1} → statement M
 admit-spec =
     tie.close
     (tie.spec
-    (search needs) (search needs) (search needs) (search needs)
-    (λ c. search (needs, admits))
-    (search needs)
-    (λ c. search (needs, check-refuses))
-    (λ c. search (needs, lent-refuses, c .refused .ensures)))
+    (search needs) (search needs) (search needs) (search needs) (search needs) (search needs)
+    (λ c. search (needs, lent-refuses, c .refused2 .ensures))
+    (λ c. search (needs, check-refuses, c .refused .ensures))
+    (λ c. search (needs, admits)))

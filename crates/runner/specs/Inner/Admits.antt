@@ -12,8 +12,7 @@ use Rattle.machine.specs.Bank.{envIn}
 use Rattle.machine.specs.Operands.{wordIn}
 use Rattle.admission.specs.Admission.{admissionOf}
 use Rattle.execution.specs.declared.Stop.{Stop}
-use Rattle.execution.specs.Program.{cleared}
-use Rattle.execution.specs.Steps.{reached, byRows}
+use Rattle.execution.specs.Steps.{zeroed, reached, byRows}
 use Rattle.runner.specs.Answers.{Answer, end, halt, Lent}
 use Rattle.runner.specs.Whole.{sizesOf}
 
@@ -22,9 +21,9 @@ pub record Admits (p : Program) (immediates file inputs constants : List ℕ) (w
   pub is : admissionOf file (sizesOf inputs constants words) ≡ accepted (programSeen p immediates [])
   pub padded : wordIn immediates ≡ wordIn (take (4 * p .immediates) immediates)
 
--- From cleared registers the run by the rows came to this stop, and left these registers and this memory.
+-- From registers that were cleared the run by the rows came to this stop, and left these registers and this memory.
 pub record Came (file rows bank registers memory : List ℕ) (budget : ℕ) (stop : Stop) (registers′ memory′ : List ℕ) : Type 0 where
-  pub is : reached stop (state registers′ memory′) ≡ byRows file rows (envIn bank) budget 0 0 (state (cleared registers) memory)
+  pub is : reached stop (state registers′ memory′) ≡ byRows file rows (envIn bank) budget 0 0 (state (zeroed registers) memory)
 
 -- A halt is before an instruction that a program can have.
 abbrev pub Near : Stop → Type 0
