@@ -18,7 +18,11 @@ ghost use Rattle.execution.specs.Steps.{askedIndirectly, bankEnv};
 fn register_words(lent: usize) -> usize
     ensures { λ r. ⌜ r ≡ min lentRegisters lent ⌝ }
 {
-    if REGISTER_WORDS <= lent { REGISTER_WORDS } else { lent }
+    if REGISTER_WORDS <= lent {
+        REGISTER_WORDS
+    } else {
+        lent
+    }
 }
 
 // Sets the register words to 0, and no word past them.

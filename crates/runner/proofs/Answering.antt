@@ -127,32 +127,32 @@ module _ (p : Program) (immediates file inputs constants registers work memory :
         right = rw w-prepared (prepared-right seen file (holds .follows) work (fits .1))
 
         module _ (budget : ℕ) (stop : Stop) (r′ m′ : List ℕ) (came : Came file w bank registers memory budget stop r′ m′) where
-            carried : reached stop (state r′ m′) ≡ carriedOut seen file inputs constants budget (state (cleared registers) memory)
-            carried =
-                came .is
-                ∙ ap (λ (e : Env). byRows file w e budget 0 0 (state (cleared registers) memory)) (gathered ∙ rw (admits .padded))
-                ∙ rows-read seen file (holds .follows) inputs constants w right budget (state (cleared registers) memory)
+          carried : reached stop (state r′ m′) ≡ carriedOut seen file inputs constants budget (state (cleared registers) memory)
+          carried =
+              came .is
+              ∙ ap (λ (e : Env). byRows file w e budget 0 0 (state (cleared registers) memory)) (gathered ∙ rw (admits .padded))
+              ∙ rows-read seen file (holds .follows) inputs constants w right budget (state (cleared registers) memory)
 
-            pub near-stop : Near stop
-            near-stop = by stop refl
-              where
-                by : (x : Stop) → stop ≡ x → Near x
-                by (Stop.Ended report) e = tt
-                by (Stop.Halted report next) e =
-                    omega (
-                      arith,
-                      halts-inside seen file (holds .follows) inputs constants budget (state (cleared registers) memory) next (report .steps) (state r′ m′)
-                          (sym carried ∙ ap (λ (x : Stop). reached x (state r′ m′)) e),
-                      followed file seen (holds .follows) .1 .most,
-                    )
+          pub near-stop : Near stop
+          near-stop = by stop refl
+            where
+              by : (x : Stop) → stop ≡ x → Near x
+              by (Stop.Ended report) e = tt
+              by (Stop.Halted report next) e =
+                  omega (
+                    arith,
+                    halts-inside seen file (holds .follows) inputs constants budget (state (cleared registers) memory) next (report .steps) (state r′ m′)
+                        (sym carried ∙ ap (λ (x : Stop). reached x (state r′ m′)) e),
+                    followed file seen (holds .follows) .1 .most,
+                  )
 
-            pub carried-out : (r : Outcome) → runAnswer r ≡ stopAnswer stop → after (runAnswer r) (lent r′ w m′) ≡ runOf file inputs constants (lent registers work memory) budget
-            unfolding runOf runAdmitted
-            carried-out r told =
-                ap (λ (a : Answer). after a (lent r′ w m′)) told
-                ∙ reported-is stop w (state r′ m′)
-                ∙ ap (reported w) carried
-                ∙ rw (admits .is, w-prepared)
+          pub carried-out : (r : Outcome) → runAnswer r ≡ stopAnswer stop → after (runAnswer r) (lent r′ w m′) ≡ runOf file inputs constants (lent registers work memory) budget
+          unfolding runOf runAdmitted
+          carried-out r told =
+              ap (λ (a : Answer). after a (lent r′ w m′)) told
+              ∙ reported-is stop w (state r′ m′)
+              ∙ ap (reported w) carried
+              ∙ rw (admits .is, w-prepared)
 
 -- ---- The run
 

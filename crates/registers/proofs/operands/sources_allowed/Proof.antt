@@ -22,10 +22,10 @@ sources-allowed-spec =
     tie.close
     (tie.spec
     Inv-loop μ-loop
-    (search needs) (search needs) (search needs) (search needs)
+    (omega arith) (omega arith) (omega arith) (omega arith)
     (λ c. (search needs, search (needs, sources-begin)))
-    (search needs) (search needs)
+    (omega arith) (omega arith)
     (λ c. search (needs, sources-stop))
-    (search needs) (search needs) (search needs)
+    (omega arith) (omega arith) (omega arith)
     (λ c. (omega arith, search (needs, sources-on)))
     (λ c. search (needs, sources-end)))
