@@ -1,5 +1,6 @@
 -- The bit of the word is the bit of the words; past the end a word counts as 0.
 use borrow.Author.Needs.{needs}
+use native.Mathlib.Omega.{arith}
 use mathlib.Core.Path.{refl}
 use Rattle.words.specs.Word.{bitIn}
 use Rattle.words.proofs.WordBits.{bits-past}
@@ -11,6 +12,6 @@ unfolding bitIn
 bit-in-spec =
     tie.close
     (tie.spec
-    (search needs) (search needs) (search needs) (search needs)
+    (omega arith) (omega arith) (omega arith) (omega arith)
     (λ c. refl)
     (λ c. search (needs, bits-past)))

@@ -1,6 +1,7 @@
 -- The bits above the offset, modulo the power.
 use Rattle.words.proofs.BitFields.{cut-fits, cut-is, power-pos}
 use borrow.Author.Needs.{needs}
+use native.Mathlib.Omega.{arith}
 use Rattle.words.proofs.fields.cut.Statement.{statement}
 use Rattle.words.proofs.fields.cut.Tie as tie
 
@@ -8,7 +9,7 @@ pub cut-spec : {M : Type 1} → statement M
 cut-spec =
     tie.close
     (tie.spec
-    (search needs) (search needs)
+    (omega arith) (omega arith)
     (λ c. search (needs, power-pos))
     (λ c. record { fits = search (needs, cut-fits 32) })
     (λ c. search (needs, cut-is)))

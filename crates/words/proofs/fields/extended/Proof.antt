@@ -2,6 +2,7 @@
 use Rattle.words.proofs.BitFields.{extended-fits, extended-high, extended-low, extended-rest, power-pos}
 use mathlib.Core.Path.{refl}
 use borrow.Author.Needs.{needs}
+use native.Mathlib.Omega.{arith}
 use Rattle.words.proofs.fields.extended.Statement.{statement}
 use Rattle.words.proofs.fields.extended.Tie as tie
 
@@ -9,7 +10,7 @@ pub extended-spec : {M : Type 1} → statement M
 extended-spec =
     tie.close
     (tie.spec
-    (search needs) (search needs) (search needs)
+    (omega arith) (omega arith) (omega arith)
     (λ c. search (needs, power-pos))
     (λ c. search (needs, extended-rest 32 refl))
     (λ c. record { fits = search (needs, extended-fits 32 refl) })

@@ -1,6 +1,7 @@
 -- The bits above, the field and the bits below, put together, fit 32 bits.
 use Rattle.words.proofs.BitFields.{above-fits, inserted-fits, inserted-is, upper-fits}
 use borrow.Author.Needs.{needs}
+use native.Mathlib.Omega.{arith}
 use Rattle.words.proofs.fields.inserted.Statement.{statement}
 use Rattle.words.proofs.fields.inserted.Tie as tie
 
@@ -8,7 +9,7 @@ pub inserted-spec : {M : Type 1} → statement M
 inserted-spec =
     tie.close
     (tie.spec
-    (search needs) (search needs) (search needs)
+    (omega arith) (omega arith) (omega arith)
     (λ c κs. search (needs, above-fits 32))
     (λ c κs. search (needs, upper-fits 32))
     (λ c. record { fits = search (needs, inserted-fits 32) })

@@ -1,6 +1,7 @@
 -- 32 bits and at most 32 bits fit 64.
 use Rattle.words.proofs.BitFields.{high-fits, joined-fits, joined-is, power-pos}
 use borrow.Author.Needs.{needs}
+use native.Mathlib.Omega.{arith}
 use Rattle.words.proofs.fields.joined.Statement.{statement}
 use Rattle.words.proofs.fields.joined.Tie as tie
 
@@ -8,9 +9,9 @@ pub joined-spec : {M : Type 1} → statement M
 joined-spec =
     tie.close
     (tie.spec
-    (search needs)
+    (omega arith)
     (λ c. record { fits = search (needs, high-fits 32) })
-    (search needs)
+    (omega arith)
     (λ c. search (needs, power-pos))
     (λ c. record { fits = search (needs, joined-fits 32) })
     (λ c. search (needs, joined-is)))

@@ -2,6 +2,7 @@
 use Rattle.words.proofs.Signed.{ishr-high, ishr-low}
 use mathlib.Core.Path.{refl}
 use borrow.Author.Needs.{needs}
+use native.Mathlib.Omega.{arith}
 use Rattle.words.proofs.shifts.ishr64.Statement.{statement}
 use Rattle.words.proofs.shifts.ishr64.Tie as tie
 
@@ -9,6 +10,6 @@ pub ishr64-spec : {M : Type 1} → statement M
 ishr64-spec =
     tie.close
     (tie.spec
-    (search needs) (search needs)
+    (omega arith) (omega arith)
     (λ c. search (needs, ishr-low 64 refl))
     (λ c. search (needs, ishr-high 64 refl)))
