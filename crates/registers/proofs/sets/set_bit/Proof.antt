@@ -4,7 +4,7 @@ use native.Mathlib.Omega.{arith}
 use Prim.Native.Nat.{_%_}
 use native.Mathlib.Nat.{one-mul}
 use lib.Pow.{shl-exact}
-use Rattle.words.proofs.WordBits.{bits-more}
+use Rattle.bits.proofs.WordBits.{bits-more}
 use Rattle.registers.proofs.sets.set_bit.Statement.{statement}
 use Rattle.registers.proofs.sets.set_bit.Tie as tie
 
