@@ -6,7 +6,6 @@ use crate::program::Program;
 use format::refusals;
 use nesting::Blocks;
 use nesting::Nested;
-use registers::operands;
 use registers::sets;
 ghost use mathlib.Core.Path.{_≡_};
 ghost use mathlib.Core.List.{List};
