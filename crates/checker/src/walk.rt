@@ -1,14 +1,13 @@
 // The walk over the records: each is taken, or refused with the lowest number that applies.
-use blocks::MOST_INSTRUCTIONS;
-use blocks::control::END;
 use crate::Checked;
 use crate::Verdict;
 use crate::kept;
 use crate::program::Program;
+use blocks::MOST_INSTRUCTIONS;
+use blocks::control::END;
 use format::refusals;
 use nesting::Blocks;
 use nesting::Nested;
-use registers::operands;
 use registers::sets;
 ghost use mathlib.Core.Path.{_≡_};
 ghost use mathlib.Core.List.{List};

@@ -12,7 +12,7 @@ use lib.Dec.{eqb, ltb}
 use lib.ListN.{length, take, replicate, length-replicate, getD-replicate, List·getD-append, List·getD-eq-default}
 use lib.Seq.{getD-append-add}
 use Rattle.words.specs.Word.{bitIn}
-use Rattle.words.proofs.WordBits.{bits-past}
+use Rattle.bits.proofs.WordBits.{bits-past}
 use Rattle.registers.specs.declared.sets.Declared.{Declared}
 use Rattle.registers.specs.Sets.{isIn}
 use Rattle.machine.specs.Bank.{envIn, declaredIn}

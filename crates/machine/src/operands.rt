@@ -1,6 +1,7 @@
 // Sources read by register number, over lent words.
 use crate::bank::Bank;
 use crate::parts;
+use bits::bit_in;
 use effects::lent::word_at;
 use format::fields::Source;
 use format::fields::indirection;
@@ -14,7 +15,6 @@ use format::files::TEMP;
 use format::files::TEMP_FROM;
 use format::kinds::first_source;
 use format::kinds::sources_of;
-use words::bits::bit_in;
 use words::sums::neg32;
 ghost use mathlib.Core.Path.{_≡_};
 ghost use Prim.Native.Nat.{_+_, _<_, _^_};

@@ -9,7 +9,7 @@ use lib.Dec.{eqb, leb, ltb}
 use lib.ListN.{length, replicate}
 use borrow.Author.Tests.{eqb-true, ne-eqb, leb-true, ltb-true, not-true, not-false}
 use Rattle.words.specs.Word.{bitIn}
-use Rattle.words.proofs.WordBits.{zero-bits}
+use Rattle.bits.proofs.WordBits.{zero-bits}
 use Rattle.format.specs.Files.{registersOf}
 use Rattle.format.specs.Kinds.{within}
 use Rattle.format.specs.declared.fields.Declaration.{Declaration}

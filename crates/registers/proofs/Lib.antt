@@ -1,5 +1,4 @@
 pub mod Choices
 pub mod Bits
 pub mod Files
-pub mod Sources
 pub mod Named

@@ -1,5 +1,4 @@
-// The registers of a program (document 01, "Register files"): which a declaration may name, which are declared, and which an
-// instruction's operands may name.
+// The registers of a program (document 01, "Register files"): which a declaration may name, and which are declared. Crate
+// `operands` has which an instruction's operands may name; specs/ says it of both crates.
 
-pub mod operands;
 pub mod sets;

@@ -1,5 +1,6 @@
 // Which registers of each file are declared, one bit each, in a struct of word arrays that goes by value; and declarations,
 // which name registers of a file.
+use bits::bit_in;
 use format::fields::Declaration;
 use format::files::ADDR;
 use format::files::CONST;
@@ -8,7 +9,6 @@ use format::files::MEM;
 use format::files::OUT;
 use format::files::TEMP;
 use format::files::registers_of;
-use words::bits::bit_in;
 ghost use mathlib.Core.Path.{_≡_};
 ghost use mathlib.Core.Bool.{cond};
 ghost use Prim.Native.Nat.{_<_, _≤_, _+_, _-_, _*_};

@@ -1,4 +1,7 @@
 // Results on 64-bit values: x low and y high, z low and w high.
+use bits::shifts::ishr64;
+use bits::shifts::shl64;
+use bits::shifts::ushr64;
 use words::division::sdiv64;
 use words::division::srem64;
 use words::division::udiv64;
@@ -9,9 +12,6 @@ use words::order::smax64;
 use words::order::smin64;
 use words::order::umax64;
 use words::order::umin64;
-use words::shifts::ishr64;
-use words::shifts::shl64;
-use words::shifts::ushr64;
 use words::sums::add64;
 use words::sums::iabs64;
 use words::sums::mul64;

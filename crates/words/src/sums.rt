@@ -8,9 +8,9 @@ ghost use Rattle.words.specs.Word.{signed, add, mul, umad, neg, umulhi, 
 const RANGE32: u64 = 0x1_0000_0000;
 
 // The word of the least number: a word below it is not negative.
-pub(crate) const LEAST32: u32 = 0x8000_0000;
+pub const LEAST32: u32 = 0x8000_0000;
 
-pub(crate) const LEAST64: u64 = 0x8000_0000_0000_0000;
+pub const LEAST64: u64 = 0x8000_0000_0000_0000;
 
 // UADD, ATOMUADD.
 pub fn add32(a: u32, b: u32) -> u32

@@ -1,9 +1,10 @@
 -- A byte by its place; past the end there is 0.
 -- Assumes nothing.
 use borrow.Author.Needs.{needs}
+use native.Mathlib.Omega.{arith}
 use Rattle.format.proofs.Readers.{past-end}
 use Rattle.format.proofs.fields.byte_at.Statement.{statement}
 use Rattle.format.proofs.fields.byte_at.Tie as tie
 
 pub byte-at-spec : {M : Type 1} → statement M
-byte-at-spec = tie.close (tie.spec (search needs) (search needs) (λ c. search (needs, past-end)))
+byte-at-spec = tie.close (tie.spec (omega arith) (omega arith) (λ c. search (needs, past-end)))

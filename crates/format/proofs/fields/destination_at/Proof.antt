@@ -1,6 +1,7 @@
 -- A destination whose bytes are all there, or field by field.
 -- Assumes nothing.
 use borrow.Author.Needs.{needs}
+use native.Mathlib.Omega.{arith}
 use Rattle.format.proofs.Readers.{destination-is}
 use Rattle.format.proofs.fields.destination_at.Statement.{statement}
 use Rattle.format.proofs.fields.destination_at.Tie as tie
@@ -9,5 +10,5 @@ pub destination-at-spec : {M : Type 1} → statement M
 destination-at-spec =
     tie.close
     (tie.spec
-    (search needs) (search needs) (λ c. search needs) (search needs) (search needs) (search needs)
+    (omega arith) (omega arith) (λ c. search needs) (omega arith) (omega arith) (omega arith)
     (λ c. search (needs, destination-is)))

@@ -1,6 +1,7 @@
 -- Four bytes, all of which are there.
 -- Assumes nothing.
 use borrow.Author.Needs.{needs}
+use native.Mathlib.Omega.{arith}
 use Rattle.format.proofs.Readers.{destination-whole}
 use Rattle.format.proofs.fields.destination_in.Statement.{statement}
 use Rattle.format.proofs.fields.destination_in.Tie as tie
@@ -9,5 +10,5 @@ pub destination-in-spec : {M : Type 1} → statement M
 destination-in-spec =
     tie.close
     (tie.spec
-    (search needs) (search needs) (search needs) (search needs) (search needs) (λ c κs. search needs) (search needs) (search needs)
+    (omega arith) (omega arith) (omega arith) (omega arith) (omega arith) (λ c κs. omega arith) (omega arith) (omega arith)
     (λ c. search (needs, destination-whole)))

@@ -3,6 +3,7 @@
 use Prim.Native.Nat.{_≤_, _-_}
 use mathlib.Core.Path.{_≡_}
 use borrow.Author.Needs.{needs}
+use native.Mathlib.Omega.{arith}
 use lib.ListN.{length}
 use Rattle.format.specs.Records.{longest, placeFrom}
 use Rattle.format.proofs.Walk.{bounds-long, bounds-none, bounds-found, start-place, size-fits-by, walk-fits, place-step}
@@ -21,12 +22,12 @@ record-bounds-spec =
     (tie.spec Inv-loop μ-loop
     (λ c. search (needs, bounds-long))
     (λ c. search (needs, start-place))
-    (search needs)
+    (omega arith)
     (λ c. search (needs, bounds-none))
     (λ c. search (needs, walk-fits))
-    (search needs)
-    (search needs)
+    (omega arith)
+    (omega arith)
     (λ c. search (needs, place-step, size-fits-by))
-    (search needs)
+    (omega arith)
     (λ c. search (needs, bounds-none))
     (λ c. search (needs, bounds-found)))

@@ -1,5 +1,6 @@
 -- What is left to search, from i on, has a bit set where the whole range has.
 use borrow.Author.Needs.{needs}
+use native.Mathlib.Omega.{arith}
 use mathlib.Core.Path.{_≡_, refl}
 use Prim.Native.Nat.{_+_, _-_}
 use Rattle.registers.proofs.Bits.{any-found, any-on, any-end}
@@ -21,8 +22,8 @@ has-any-spec =
     (tie.spec
     Inv-loop μ-loop
     (λ c. refl)
-    (search needs)
+    (omega arith)
     (λ c. search (needs, any-found))
-    (search needs) (search needs)
+    (omega arith) (omega arith)
     (λ c. search (needs, any-on))
     (λ c. search (needs, any-end)))

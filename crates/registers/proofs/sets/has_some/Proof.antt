@@ -1,5 +1,6 @@
 -- The words before i are 0, so a bit is set from word i on where one is set at all.
 use borrow.Author.Needs.{needs}
+use native.Mathlib.Omega.{arith}
 use mathlib.Core.Path.{_≡_}
 use Prim.Native.Nat.{_*_, _-_}
 use native.Mathlib.Nat.{sub-zero}
@@ -23,8 +24,8 @@ has-some-spec =
     (tie.spec
     Inv-loop μ-loop
     (λ c. simp sub-zero)
-    (search needs) (search needs) (search needs)
+    (omega arith) (omega arith) (omega arith)
     (λ c. search (needs, some-found))
-    (search needs) (search needs)
+    (omega arith) (omega arith)
     (λ c. search (needs, some-on))
     (λ c. search (needs, some-end)))

@@ -2,6 +2,7 @@
 use Rattle.words.proofs.Product.{imulhi-high-high, imulhi-high-low, imulhi-low-high, imulhi-low-low}
 use mathlib.Core.Path.{refl}
 use borrow.Author.Needs.{needs}
+use native.Mathlib.Omega.{arith}
 use Rattle.words.proofs.sums.imulhi32.Statement.{statement}
 use Rattle.words.proofs.sums.imulhi32.Tie as tie
 
@@ -9,7 +10,7 @@ pub imulhi32-spec : {M : Type 1} → statement M
 imulhi32-spec =
     tie.close
     (tie.spec
-    (search needs) (search needs) (search needs) (search needs) (search needs) (search needs) (search needs)
+    (omega arith) (omega arith) (omega arith) (omega arith) (omega arith) (omega arith) (omega arith)
     (λ c. search (needs, imulhi-low-low 32 refl))
     (λ c. search (needs, imulhi-low-high 32 refl))
     (λ c. search (needs, imulhi-high-low 32 refl))

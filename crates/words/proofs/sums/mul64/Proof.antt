@@ -1,6 +1,7 @@
 -- The products of halves, put together, are the product modulo 2^64.
 use Rattle.words.proofs.Product.{mul-halves}
 use borrow.Author.Needs.{needs}
+use native.Mathlib.Omega.{arith}
 use Rattle.words.proofs.sums.mul64.Statement.{statement}
 use Rattle.words.proofs.sums.mul64.Tie as tie
 
@@ -8,6 +9,6 @@ pub mul64-spec : {M : Type 1} → statement M
 mul64-spec =
     tie.close
     (tie.spec
-    (search needs) (search needs) (search needs) (search needs) (search needs) (search needs) (search needs)
-    (search needs) (search needs) (search needs) (search needs)
+    (omega arith) (omega arith) (omega arith) (omega arith) (omega arith) (omega arith) (omega arith)
+    (omega arith) (omega arith) (omega arith) (omega arith)
     (λ c. search (needs, mul-halves 32)))

@@ -1,0 +1,5 @@
+pub mod Bitwise
+pub mod WordBits
+pub mod Counts
+pub mod Reversal
+pub mod BitFields

@@ -1,7 +1,0 @@
--- The kinds whose sources may be negated, as the rule has them.
-use borrow.Author.Needs.{needs}
-use Rattle.registers.proofs.operands.may_negate.Statement.{statement}
-use Rattle.registers.proofs.operands.may_negate.Tie as tie
-
-pub may-negate-spec : {M : Type 1} → statement M
-may-negate-spec = tie.close (tie.spec (search needs))
