@@ -38,11 +38,19 @@ within-words budget (end report) h = (omega arith, h)
 within-words budget (halt report next) h = (omega arith, h .0)
 within-words budget unanswered h = absurd h
 
--- A run is done, halted or refused, and its count is "never above budget" (01, Forms for specific places).
-pub ran-within : (file inputs constants : List ℕ) (over left : Lent) (budget : ℕ) (a : Library) (r : Answer)
-    → r ≡ answerOf a → after a left ≡ runOf file inputs constants over budget → (r .status ≤ 2) × (stepsIn r ≤ budget)
-ran-within file inputs constants over left budget a r h e =
-    rw h (within-words budget a (subst (Answered budget) (sym (ap (λ (x : Result). x .answer) e)) (run-answers file inputs constants over budget)))
+module _ (file inputs constants : List ℕ) (over left : Lent) (budget : ℕ) (a : Library) (r : Answer)
+    (h : r ≡ answerOf a) (e : after a left ≡ runOf file inputs constants over budget)
+  where
+    both : (answerOf a .status ≤ 2) × (stepsIn (answerOf a) ≤ budget)
+    both = within-words budget a (subst (Answered budget) (sym (ap (λ (x : Result). x .answer) e)) (run-answers file inputs constants over budget))
+
+    -- A run is done, halted or refused.
+    pub ran-status : r .status ≤ 2
+    ran-status = rw h (both .0)
+
+    -- "never above budget" (01, Forms for specific places)
+    pub ran-within : stepsIn r ≤ budget
+    ran-within = rw h (both .1)
 
 pub part-is : (b x : Bounds) → b ≡ x → partOf b ≡ partOf x
 part-is b x e = ap partOf e

@@ -114,7 +114,8 @@ pub extern "C" fn ropebonnet_run(
     budget: u32,
 ) -> Answer
     ensures whole { λ r. ⌜ afterRun r (lent (now (registers .exit)) (now (work .exit)) (now (memory .exit))) ≡ resultInWords (runOf (now (file .entry)) (now (inputs .entry)) (now (constants .entry)) (lent (now (registers .entry)) (now (work .entry)) (now (memory .entry))) budget) ⌝ }
-    ensures within { λ r. ⌜ (r .status ≤ 2) × (stepsIn r ≤ budget) ⌝ }
+    ensures status { λ r. ⌜ r .status ≤ 2 ⌝ }
+    ensures within { λ r. ⌜ stepsIn r ≤ budget ⌝ }
 {
     ran(runner::run(file, inputs, constants, registers, work, memory, budget))
 }

@@ -1,7 +1,7 @@
 -- The answer is what the definition says, in words; the lent words are those the library leaves.
 -- Assumes nothing.
 use borrow.Author.Needs.{needs}
-use Rattle.capi.proofs.HandedOn.{ran-is, ran-within}
+use Rattle.capi.proofs.HandedOn.{ran-is, ran-status, ran-within}
 use Rattle.capi.proofs.ropebonnet_run.Statement.{statement}
 use Rattle.capi.proofs.ropebonnet_run.Tie as tie
 
@@ -14,4 +14,4 @@ ropebonnet-run-spec =
     (search needs)
     (search needs)
     (search needs)
-    (λ c. (search (needs, ran-is), search (needs, ran-within))))
+    (λ c. (search (needs, ran-is), (search (needs, ran-status), search (needs, ran-within)))))
