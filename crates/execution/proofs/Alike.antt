@@ -1,8 +1,8 @@
 -- No accepted program can tell the bank from what is lent: a direct operand names a register within its file, an indirect one a
 -- declared register of CONST or TEMP, and the bank has the words of all of these.
 -- Assumes nothing.
-use mathlib.Core.Path.{_≡_, refl, sym, ap, _∙_, subst}
-use mathlib.Core.Bool.{Bool, true, false, cond, _&&_, _||_}
+use mathlib.Core.Path.{_≡_, refl, ap, _∙_, subst}
+use mathlib.Core.Bool.{Bool, true, false, cond, _||_}
 use mathlib.Core.List.{List}
 use Prim.Native.Nat.{ℕ, _+_, _-_, _*_, _<_}
 use native.Mathlib.Omega.{arith}
@@ -23,9 +23,9 @@ use Rattle.checker.specs.Findings.{Seen}
 use Rattle.checker.proofs.Accepted.{source-inside, indirect-file}
 use Rattle.checker.proofs.Followed.{followed}
 use Rattle.effects.specs.Destinations.{components, zeros}
-use Rattle.machine.specs.Operands.{Env, wordIn, envWith, fourFrom, registerWords, ifDeclared, registerOf, taken, takenAt, sourceOf, kindByte, nthSource, sourcesOf}
-use Rattle.machine.specs.declared.operands.Place.{Place}
-use Rattle.machine.specs.declared.operands.Place.the-variants.{Register, Nowhere}
+use Rattle.sources.specs.Operands.{Env, wordIn, envWith, fourFrom, registerWords, ifDeclared, registerOf, taken, takenAt, sourceOf, kindByte, nthSource, sourcesOf}
+use Rattle.sources.specs.declared.operands.Place.{Place}
+use Rattle.sources.specs.declared.operands.Place.the-variants.{Register, Nowhere}
 use Rattle.execution.specs.Program.{placeOf, envOf}
 use Rattle.execution.specs.Steps.{askedIndirectly, bankEnv}
 

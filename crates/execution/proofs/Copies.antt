@@ -1,7 +1,7 @@
 -- Words set one after the other: registers cleared, and two lists laid one behind the other.
 -- Assumes nothing.
 use mathlib.Core.Path.{_≡_, refl, sym, ap, _∙_}
-use mathlib.Core.List.{List, [], _∷_, _++_}
+use mathlib.Core.List.{List, _++_}
 use mathlib.Core.Bool.{Bool, true, false}
 use Prim.Native.Nat.{ℕ, _+_, _-_, _<_, _≤_, min}
 use native.Mathlib.Omega.{arith}
@@ -10,7 +10,7 @@ use native.Mathlib.Numerals.{add-one}
 use borrow.Author.Fill.{fill-more}
 use borrow.Author.Tests.{ltb-true, ltb-false}
 use lib.Dec.{ltb}
-use lib.ListN.{length, getD, set, take, drop, replicate, length-append, length-take, drop-of-length-le, List·getD-append}
+use lib.ListN.{length, getD, set, take, drop, replicate, length-take, drop-of-length-le, List·getD-append}
 use lib.Seq.{take-all, take-suc, take-suc-set, getD-append-add}
 use Rattle.format.specs.Files.{lentRegisters}
 use Rattle.execution.specs.Program.{cleared}

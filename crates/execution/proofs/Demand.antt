@@ -27,8 +27,8 @@ use Rattle.checker.specs.Findings.{Seen}
 use Rattle.checker.proofs.Followed.{followed}
 use Rattle.effects.specs.Destinations.{State}
 use Rattle.effects.specs.Effect.{effectOf, familyOf, xOf}
-use Rattle.machine.specs.Bank.{envIn}
-use Rattle.machine.specs.Operands.{Env, kindByte}
+use Rattle.sources.specs.Bank.{envIn}
+use Rattle.sources.specs.Operands.{Env, kindByte}
 use Rattle.machine.specs.Step.{machineOf, recordEffect}
 use Rattle.execution.specs.Program.{placeOf, envOf, programOf, carriedOut}
 use Rattle.execution.specs.Steps.{bankEnv, machineBy, byRows}

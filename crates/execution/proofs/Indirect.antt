@@ -6,7 +6,6 @@ use mathlib.Core.Bool.{Bool, true, false, _&&_}
 use mathlib.Core.List.{List, _++_}
 use Prim.Native.Nat.{ℕ, _+_, _-_, _/_, _%_, _^_, _<_, _≤_}
 use native.Mathlib.Omega.{arith}
-use native.Mathlib.Nat.{zero-div, zero-mod}
 use borrow.Author.Tests.{ltb-true, ltb-false, eqb-true}
 use lib.Dec.{eqb, ltb}
 use lib.ListN.{length, take, replicate, length-replicate, getD-replicate, List·getD-append, List·getD-eq-default}
@@ -15,8 +14,8 @@ use Rattle.words.specs.Word.{bitIn}
 use Rattle.bits.proofs.WordBits.{bits-past}
 use Rattle.registers.specs.declared.sets.Declared.{Declared}
 use Rattle.registers.specs.Sets.{isIn}
-use Rattle.machine.specs.Bank.{envIn, declaredIn}
-use Rattle.machine.specs.Operands.{envWith, wordIn}
+use Rattle.sources.specs.Bank.{envIn, declaredIn}
+use Rattle.sources.specs.Operands.{envWith, wordIn}
 use Rattle.execution.specs.Steps.{askedIndirectly, bankEnv}
 use Rattle.execution.proofs.Copies.{copy-end}
 

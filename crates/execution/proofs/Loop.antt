@@ -1,6 +1,6 @@
 -- The loop over steps is the run by the rows: what is left to do from where it stands comes to what the whole comes to.
 -- Assumes nothing.
-use mathlib.Core.Path.{_≡_, refl, sym, ap, _∙_}
+use mathlib.Core.Path.{_≡_, ap, _∙_}
 use mathlib.Core.List.{List}
 use Prim.Native.Nat.{ℕ, suc, _+_, _-_, _<_, _≤_}
 use native.Mathlib.Omega.{arith}
@@ -8,12 +8,12 @@ use native.Mathlib.Nat.{sub-zero}
 use borrow.Author.Tests.{lt-ltb, le-ltb}
 use Rattle.blocks.specs.declared.Next.{Next}
 use Rattle.blocks.specs.declared.Next.the-variants.{At, Ended}
-use Rattle.blocks.specs.Reading.{Reading, ended, halted}
+use Rattle.blocks.specs.Reading.{Reading}
 use Rattle.blocks.specs.Run.{mostInstructions, Step, follow, step}
 use Rattle.blocks.specs.Table.{rowIn}
 use Rattle.effects.specs.Destinations.{State}
 use Rattle.effects.specs.Effect.{state}
-use Rattle.machine.specs.Operands.{Env}
+use Rattle.sources.specs.Operands.{Env}
 use Rattle.machine.specs.Step.{stepped}
 use Rattle.execution.specs.declared.Stop.{Stop}
 use Rattle.execution.specs.Steps.{report, reached, machineBy, byRows}

@@ -27,7 +27,7 @@ use Rattle.effects.specs.Destinations.{State, components, firstWord, ifMasked, 
 use Rattle.effects.specs.Effect.{Family, WORDS, WIDE-UNARY, LOAD, WIDE, STORE, ATOMIC, ATOMCAS, NONE, familyOf, effectOf, xOf}
 use Rattle.effects.specs.Memory.{loaded, loadedFrom}
 use Rattle.effects.specs.Sources.{resultWords}
-use Rattle.machine.specs.Operands.{kindByte, sourcesOf}
+use Rattle.sources.specs.Operands.{kindByte, sourcesOf}
 use Rattle.machine.specs.Step.{recordEffect}
 use Rattle.execution.specs.Program.{placeOf, envOf, programOf, cleared, carriedOut}
 use Rattle.execution.proofs.Alike.{kind-from}

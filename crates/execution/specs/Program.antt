@@ -11,7 +11,7 @@ use Rattle.blocks.specs.Reading.{Reading, reading}
 use Rattle.table.specs.Prepared.{opFrom}
 use Rattle.checker.specs.Findings.{Seen}
 use Rattle.effects.specs.Destinations.{State}
-use Rattle.machine.specs.Operands.{Env, envWith}
+use Rattle.sources.specs.Operands.{Env, envWith}
 use Rattle.machine.specs.Step.{machineOf}
 
 -- Instruction n of an accepted program stands where the walk from the first instruction comes to after n records.

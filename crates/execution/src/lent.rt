@@ -1,15 +1,15 @@
 // What is lent to a run: the registers cleared, and what is read and never written gathered in one bank.
 use format::files::REGISTER_WORDS;
-use machine::bank::Bank;
-use machine::bank::gather;
 use registers::sets::Declared;
+use sources::bank::Bank;
+use sources::bank::gather;
 ghost use mathlib.Core.Path.{_≡_};
 ghost use mathlib.Core.List.{_++_};
 ghost use Prim.Native.Nat.{_<_, min};
 ghost use lib.ListN.{getD};
 ghost use Rattle.format.specs.Files.{lentRegisters};
 ghost use Rattle.registers.specs.Sets.{isIn};
-ghost use Rattle.machine.specs.Bank.{envIn, declaredIn};
+ghost use Rattle.sources.specs.Bank.{envIn, declaredIn};
 ghost use Rattle.execution.specs.Steps.{askedIndirectly, bankEnv, zeroed};
 
 // How many of so many lent words are words of registers.

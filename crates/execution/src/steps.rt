@@ -3,11 +3,11 @@ use crate::Report;
 use crate::Stop;
 use blocks::MOST_INSTRUCTIONS;
 use blocks::Next;
-use machine::bank::Bank;
 use machine::step::step;
+use sources::bank::Bank;
 ghost use mathlib.Core.Path.{_≡_};
 ghost use Rattle.effects.specs.Effect.{state};
-ghost use Rattle.machine.specs.Bank.{envIn};
+ghost use Rattle.sources.specs.Bank.{envIn};
 ghost use Rattle.execution.specs.Steps.{reached, byRows};
 
 // Carries out instructions by the table's rows, from the first on, until END or until the budget is spent.

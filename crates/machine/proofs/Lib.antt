@@ -1,4 +1,3 @@
-pub mod Gather
 pub mod Sources
 pub mod Steps
 pub mod Walks

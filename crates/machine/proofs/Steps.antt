@@ -4,8 +4,8 @@ use Rattle.effects.specs.Sources.{sourceWord}
 use Rattle.effects.specs.Destinations.{State}
 use Rattle.effects.specs.Effect.{NONE, effectOf, familyOf, state}
 use Rattle.effects.proofs.Effects.{kindIn, same-family}
-use Rattle.machine.specs.Bank.{envIn, part}
-use Rattle.machine.specs.Operands.{Env, sourcesOf, wordIn}
+use Rattle.sources.specs.Bank.{envIn, part}
+use Rattle.sources.specs.Operands.{Env, sourcesOf, wordIn}
 use Rattle.machine.specs.Step.{machineOf, recordEffect, stepped, testOf}
 use Rattle.machine.specs.Inner.Parts.{labelsOf}
 use Rattle.machine.proofs.Walks.{walk-labels}

@@ -14,7 +14,7 @@ use Rattle.blocks.specs.Table.{Row, placeIn, rowIn}
 use Rattle.blocks.specs.Run.{walk}
 use Rattle.blocks.proofs.Ops.{not-kind}
 use Rattle.effects.specs.Destinations.{State}
-use Rattle.machine.specs.Operands.{Env, wordIn}
+use Rattle.sources.specs.Operands.{Env, wordIn}
 use Rattle.machine.specs.Step.{machineOf}
 use Rattle.machine.specs.Inner.Parts.{isCaseAt, labelsOf}
 

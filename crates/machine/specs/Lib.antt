@@ -1,4 +1,2 @@
-pub mod Operands
-pub mod Bank
 pub mod Step
 pub mod Inner

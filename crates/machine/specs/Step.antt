@@ -9,7 +9,7 @@ use Rattle.blocks.specs.Run.{Step}
 use Rattle.blocks.specs.declared.Next.{Next}
 use Rattle.effects.specs.Destinations.{State}
 use Rattle.effects.specs.Effect.{familyOf, effectOf, state, xOf}
-use Rattle.machine.specs.Operands.{Env, kindByte, sourcesOf}
+use Rattle.sources.specs.Operands.{Env, kindByte, sourcesOf}
 
 -- The effect of the instruction whose record has these bytes, and of the instruction at place p of the file.
 unfoldable pub recordEffect : Env → List ℕ → State → State

@@ -1,7 +1,5 @@
-// Instructions over lent words: the bank, sources, labels, and the step that the run repeats.
+// Instructions over lent words: all sources of one, labels, and the step that the run repeats.
 
-pub mod bank;
 mod labels;
-mod operands;
-mod parts;
+mod reading;
 pub mod step;

@@ -1,22 +1,22 @@
 // One step: the instruction's effect and what comes next, by a match on the kind with ranges.
-use crate::bank::Bank;
 use crate::labels::after_label;
 use crate::labels::jump_of;
 use crate::labels::label_of;
 use crate::labels::place_of;
-use crate::operands::read_sources;
-use crate::parts;
+use crate::reading::read_sources;
 use blocks::Next;
 use blocks::control;
 use effects::effect::effect;
 use format::fields::byte_at;
 use format::fields::destination_at;
+use sources::bank::Bank;
+use sources::parts;
 ghost use mathlib.Core.Path.{_≡_};
 ghost use lib.ListN.{drop};
 ghost use Rattle.blocks.specs.Table.{placeIn, rowIn};
 ghost use Rattle.blocks.specs.Run.{step as stepOf};
 ghost use Rattle.effects.specs.Effect.{state};
-ghost use Rattle.machine.specs.Bank.{envIn};
+ghost use Rattle.sources.specs.Bank.{envIn};
 ghost use Rattle.machine.specs.Step.{machineOf, stepped};
 
 // The bytes from a place on, none past the end.

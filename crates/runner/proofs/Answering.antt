@@ -22,7 +22,7 @@ use Rattle.checker.proofs.Examining.{outcome-is, words-are}
 use Rattle.checker.proofs.Followed.{followed}
 use Rattle.effects.specs.Destinations.{State}
 use Rattle.effects.specs.Effect.{state}
-use Rattle.machine.specs.Bank.{envIn}
+use Rattle.sources.specs.Bank.{envIn}
 use Rattle.admission.specs.Admission.{admissionOf}
 use Rattle.admission.proofs.Admitting.{Admitted, admitted-is, lent-enough}
 use Rattle.execution.specs.declared.Report.{Report}

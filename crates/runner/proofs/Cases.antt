@@ -21,7 +21,7 @@ use Rattle.results.specs.Arithmetic.{unary, binary, ternary, resultWord, wide, 
 use Rattle.effects.specs.Destinations.{components, ifMasked, masked, firstWord}
 use Rattle.effects.specs.Sources.{resultWords}
 use Rattle.effects.specs.Effect.{familyOf}
-use Rattle.machine.specs.Operands.{registerWords, registerOf, taken, sourceOf, nthSource, sourcesOf}
+use Rattle.sources.specs.Operands.{registerWords, registerOf, taken, sourceOf, nthSource, sourcesOf}
 use Rattle.machine.specs.Step.{recordEffect}
 use Rattle.admission.specs.Admission.{lentRefusal, admissionOf}
 use Rattle.execution.specs.Program.{cleared, carriedOut}

@@ -9,7 +9,7 @@ use execution::lent::bank_of;
 use execution::lent::clear;
 use execution::steps::carry_out;
 use format::refusals::WORKING_SHORT;
-use machine::bank::Bank;
+use sources::bank::Bank;
 use table::fill;
 ghost use mathlib.Core.Path.{_≡_};
 ghost use Prim.Native.Nat.{_≤_};

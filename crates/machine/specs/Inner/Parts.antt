@@ -1,18 +1,12 @@
--- What the parts of a step promise: words laid into the bank, sources that have not been read, and the walk along labels.
+-- What the parts of a step promise: sources that have not been read, and the walk along labels.
 -- Assumes nothing.
 use Prim.Native.Nat.{ℕ}
 use mathlib.Core.Bool.{Bool, false}
 use mathlib.Core.List.{List, [], _∷_}
-use lib.ListN.{length}
-use lib.Seq.{paste}
 use Rattle.blocks.specs.Control.{Machine, caseOf}
 use Rattle.effects.specs.Destinations.{State, zeros}
-use Rattle.machine.specs.Operands.{envWith}
+use Rattle.sources.specs.Operands.{envWith}
 use Rattle.machine.specs.Step.{machineOf}
-
--- Words copied into a list, from a place on.
-abbrev pub laid : List ℕ → ℕ → List ℕ → List ℕ
-laid l from words = paste l from words (length words)
 
 -- No source has been read yet.
 abbrev pub noSources : List (List ℕ)

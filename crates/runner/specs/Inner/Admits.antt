@@ -8,8 +8,8 @@ use Rattle.blocks.specs.Run.{mostInstructions}
 use Rattle.checker.specs.declared.program.Program.{Program}
 use Rattle.checker.specs.Check.{accepted, programSeen}
 use Rattle.effects.specs.Effect.{state}
-use Rattle.machine.specs.Bank.{envIn}
-use Rattle.machine.specs.Operands.{wordIn}
+use Rattle.sources.specs.Bank.{envIn}
+use Rattle.sources.specs.Operands.{wordIn}
 use Rattle.admission.specs.Admission.{admissionOf}
 use Rattle.execution.specs.declared.Stop.{Stop}
 use Rattle.execution.specs.Steps.{zeroed, reached, byRows}

@@ -5,7 +5,7 @@ use Prim.Native.Nat.{_-_, _≤_}
 use borrow.Author.Needs.{needs}
 use lib.ListN.{length}
 use Rattle.effects.specs.Effect.{state}
-use Rattle.machine.specs.Bank.{envIn}
+use Rattle.sources.specs.Bank.{envIn}
 use Rattle.execution.specs.Steps.{byRows}
 use Rattle.execution.proofs.Loop.{none-yet, goes-on, comes-to-end, leads-out, is-spent}
 use Rattle.execution.proofs.steps.carry_out.Statement.{statement}

@@ -1,0 +1,14 @@
+-- The four components, negated or not.
+use Rattle.sources.proofs.Sources.{pick-negated, pick-plain}
+use borrow.Author.Needs.{needs}
+use Rattle.sources.proofs.operands.pick.Statement.{statement}
+use Rattle.sources.proofs.operands.pick.Tie as tie
+
+pub pick-spec : {M : Type 1} → statement M
+pick-spec =
+    tie.close
+    (tie.spec
+    (search needs) (search needs) (search needs) (search needs)
+    (search needs) (search needs) (search needs) (search needs) (search needs)
+    (λ c. search (needs, pick-negated))
+    (λ c. search (needs, pick-plain)))
