@@ -2,7 +2,7 @@
 -- is 0, and `set` leaves the list.
 -- Assumes nothing.
 use mathlib.Core.Path.{_≡_, refl, sym, ap, _∙_}
-use mathlib.Core.Bool.{Bool, true, false, cond, not, _&&_, _||_}
+use mathlib.Core.Bool.{Bool, true, false, cond, not, _&&_}
 use mathlib.Core.List.{List}
 use Prim.Native.Nat.{ℕ, suc, _+_, _-_, _*_, _<_, _≤_}
 use native.Mathlib.Omega.{arith}
@@ -13,7 +13,7 @@ use borrow.Author.Tests.{eq-eqb, ne-eqb, le-leb, lt-leb, leb-false}
 use Rattle.format.specs.Kinds.{within}
 use Rattle.blocks.specs.Control.{Op, PLAIN, ELSE, ENDIF, BGNLOOP, ENDLOOP, BRK, CONT, DEFAULT, ENDSWITCH, END, UIF, SWITCH, CASE, kindOf, opOf}
 use Rattle.blocks.specs.Nesting.{opens}
-use Rattle.blocks.proofs.Ops.{by-kind, kind-is}
+use Rattle.blocks.proofs.Ops.{by-kind}
 use Rattle.nesting.specs.Search.{slotOf, ending, placeIn, isHere, hung}
 use Rattle.nesting.specs.Arrays.{topCode, topStart, topSet, someCode, innermostIs, innermostStart, nestingKept, switchKept, nestingRefusal, Left, leaving, popped, recoded, more, labelled, leftAfter, nestOf}
 use Rattle.nesting.specs.declared.Blocks.{Blocks}
@@ -154,9 +154,6 @@ module _ (b : Blocks) (kind x : ℕ) (values links : List ℕ) (r : Bool) where
         on SWITCH e = refl
         on CASE e = absurd (n92 e)
         on PLAIN e = refl
-
-pub opens-by : (kind : ℕ) → (eqb kind 0x90 || eqb kind 0x83 || eqb kind 0x91) ≡ opens (opOf kind)
-opens-by kind = rw (kind-is UIF kind refl, kind-is BGNLOOP kind refl, kind-is SWITCH kind refl)
 
 -- ---- A search
 

@@ -14,7 +14,8 @@ use lib.ListN.{length, getD}
 use borrow.Author.Tests.{eq-eqb, ne-eqb, eqb-true, eqb-false, le-leb, lt-leb, le-ltb, lt-ltb}
 use Rattle.words.specs.Word.{isSet, bitIn}
 use Rattle.words.proofs.Choices.{or-comm}
-use Rattle.registers.specs.Sets.{anyOf, withOne, withAll}
+use Rattle.registers.specs.Sets.{anyOf, withAll}
+use Rattle.registers.specs.Inner.Bits.{withOne}
 use Rattle.registers.proofs.Choices.{le-or-lt, or-false, and-false}
 
 -- ---- A range of bits more, one after the other

@@ -15,7 +15,7 @@ use Rattle.format.specs.declared.fields.Destination.{Destination}
 use Rattle.format.specs.declared.fields.Source.{Source}
 use Rattle.format.specs.declared.fields.Declaration.{Declaration}
 use Rattle.registers.specs.Sets.{Registers, none, withRange}
-use Rattle.registers.specs.Rules.{memoryKind, mayNegate, destinationFile, maskRule, destinationRule, sourceRule, allSources, allOperands, operandRules, declarationRule, UARL, STORE, CASE}
+use Rattle.registers.specs.Rules.{mayNegate, destinationFile, maskRule, destinationRule, sourceRule, allSources, allOperands, operandRules, declarationRule, UARL, STORE, CASE}
 use Rattle.registers.specs.Found.{destinationFound, sourceFound, operandsFound}
 use Rattle.registers.proofs.Choices.{never}
 use Rattle.registers.proofs.Files.{rule-last}
@@ -151,13 +151,6 @@ module _ (kind : ℕ) (file : List ℕ) (at : ℕ) where
 
     pub destination-declared : (destinations (formOf kind) ≡ 0 → ⊥) → declared (destination .file) (destination .index) ≡ true
     destination-declared = destination-asked (destinationFound declared) (sourceFound declared words) all-found
-
-    -- "memory kind without MEM" is refused.
-    pub memory-declared : memoryKind kind ≡ true → declared MEM 0 ≡ true
-    unfolding operandsFound
-    memory-declared m =
-        rw m at
-        (and-both (allOperands kind (destinationFound declared) (sourceFound declared words) file at) (not (memoryKind kind) || declared MEM 0) found .1)
 
     -- A direct source, modifier 0 or 1.
     module _ (i : ℕ) (h : i < sources (formOf kind)) (direct : indirection (source i) ≡ 0) where

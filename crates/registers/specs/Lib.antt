@@ -1,3 +1,4 @@
 pub mod Sets
 pub mod Rules
 pub mod Found
+pub mod Inner

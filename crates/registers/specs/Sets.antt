@@ -16,10 +16,7 @@ Registers = ℕ → ℕ → Bool
 abbrev pub none : Registers
 none f i = false
 
--- Numbers with one more, and with those from first to last more.
-abbrev pub withOne : (ℕ → Bool) → ℕ → ℕ → Bool
-withOne p i j = eqb j i || p j
-
+-- Numbers with those from first to last more.
 abbrev pub withAll : (ℕ → Bool) → ℕ → ℕ → ℕ → Bool
 withAll p first last j = within first last j || p j
 

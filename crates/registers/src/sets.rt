@@ -15,7 +15,8 @@ ghost use Prim.Native.Nat.{_<_, _≤_, _+_, _-_, _*_};
 ghost use lib.ListN.{length};
 ghost use Rattle.words.specs.Word.{isSet, bitIn};
 ghost use Rattle.format.specs.Files.{registersOf};
-ghost use Rattle.registers.specs.Sets.{isIn, none, withOne, withAll, withRange, anyOf};
+ghost use Rattle.registers.specs.Sets.{isIn, none, withAll, withRange, anyOf};
+ghost use Rattle.registers.specs.Inner.Bits.{withOne};
 ghost use Rattle.registers.specs.Rules.{declarationRule};
 ghost use Rattle.registers.specs.Found.{overlaps};
 

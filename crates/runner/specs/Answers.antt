@@ -31,7 +31,7 @@ stepsOf (end report) = report .steps
 stepsOf (halt report next) = report .steps
 stepsOf unanswered = 0
 
--- "nothing is written but register words, working words and data memory"
+-- What a run writes: register words, working words and data memory, and nothing else.
 pub record Lent : Type 0 where
   pub registers : List ℕ
   pub work : List ℕ
