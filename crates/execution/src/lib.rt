@@ -13,6 +13,6 @@ pub struct Report {
 pub enum Stop {
     // END was carried out.
     Ended(Report),
-    // The budget was spent; the next instruction's number.
+    // The budget was spent, or rows that are no program's led past the last instruction that one can have; the next number.
     Halted(Report, usize),
 }
