@@ -25,14 +25,14 @@ use order::smin32;
 use order::ucmp32;
 use order::umax32;
 use order::umin32;
+use products::imulhi32;
+use products::mul32;
+use products::umad32;
+use products::umulhi32;
 use words::sums::add32;
 use words::sums::iabs32;
-use words::sums::imulhi32;
-use words::sums::mul32;
 use words::sums::neg32;
 use words::sums::ssg32;
-use words::sums::umad32;
-use words::sums::umulhi32;
 ghost use mathlib.Core.Path.{_≡_};
 ghost use Rattle.results.specs.Arithmetic.{atomic, resultWord};
 

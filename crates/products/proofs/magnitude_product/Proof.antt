@@ -1,9 +1,9 @@
 -- What IABS gives is the magnitude.
-use Rattle.words.proofs.Product.{magnitudes}
+use Rattle.products.proofs.Product.{magnitudes}
 use mathlib.Core.Path.{refl}
 use borrow.Author.Needs.{needs}
-use Rattle.words.proofs.sums.magnitude_product.Statement.{statement}
-use Rattle.words.proofs.sums.magnitude_product.Tie as tie
+use Rattle.products.proofs.magnitude_product.Statement.{statement}
+use Rattle.products.proofs.magnitude_product.Tie as tie
 
 pub magnitude-product-spec : {M : Type 1} → statement M
 magnitude-product-spec =

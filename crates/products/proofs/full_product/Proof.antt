@@ -1,8 +1,8 @@
 -- The product of two words fits 64 bits.
-use Rattle.words.proofs.Numbers.{product-lt}
+use Rattle.products.proofs.Product.{product-lt}
 use borrow.Author.Needs.{needs}
-use Rattle.words.proofs.sums.full_product.Statement.{statement}
-use Rattle.words.proofs.sums.full_product.Tie as tie
+use Rattle.products.proofs.full_product.Statement.{statement}
+use Rattle.products.proofs.full_product.Tie as tie
 
 pub full-product-spec : {M : Type 1} → statement M
 full-product-spec =

@@ -1,9 +1,9 @@
 -- The products of halves, put together, are the product modulo 2^64.
-use Rattle.words.proofs.Product.{mul-halves}
+use Rattle.products.proofs.Product.{mul-halves}
 use borrow.Author.Needs.{needs}
 use native.Mathlib.Omega.{arith}
-use Rattle.words.proofs.sums.mul64.Statement.{statement}
-use Rattle.words.proofs.sums.mul64.Tie as tie
+use Rattle.products.proofs.mul64.Statement.{statement}
+use Rattle.products.proofs.mul64.Tie as tie
 
 pub mul64-spec : {M : Type 1} → statement M
 mul64-spec =

@@ -1,8 +1,8 @@
 -- A sum modulo 2^32 does not see that the product was taken modulo 2^32 before.
-use Rattle.words.proofs.Product.{umad-is}
+use Rattle.products.proofs.Product.{umad-is}
 use borrow.Author.Needs.{needs}
-use Rattle.words.proofs.sums.umad32.Statement.{statement}
-use Rattle.words.proofs.sums.umad32.Tie as tie
+use Rattle.products.proofs.umad32.Statement.{statement}
+use Rattle.products.proofs.umad32.Tie as tie
 
 pub umad32-spec : {M : Type 1} → statement M
 umad32-spec =

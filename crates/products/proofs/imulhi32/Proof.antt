@@ -1,10 +1,10 @@
 -- The upper half of the product of the magnitudes, or of its negative.
-use Rattle.words.proofs.Product.{imulhi-high-high, imulhi-high-low, imulhi-low-high, imulhi-low-low}
+use Rattle.products.proofs.Product.{imulhi-high-high, imulhi-high-low, imulhi-low-high, imulhi-low-low}
 use mathlib.Core.Path.{refl}
 use borrow.Author.Needs.{needs}
 use native.Mathlib.Omega.{arith}
-use Rattle.words.proofs.sums.imulhi32.Statement.{statement}
-use Rattle.words.proofs.sums.imulhi32.Tie as tie
+use Rattle.products.proofs.imulhi32.Statement.{statement}
+use Rattle.products.proofs.imulhi32.Tie as tie
 
 pub imulhi32-spec : {M : Type 1} → statement M
 imulhi32-spec =

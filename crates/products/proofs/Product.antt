@@ -1,15 +1,20 @@
--- Products: the low half of two numbers of two digits, and the upper half of the signed product by the magnitudes.
+-- Products: the bound of one, the low half of two numbers of two digits, and the upper half of the signed product by the magnitudes.
 use Rattle.words.specs.Word.{add, iabs, imulhi, mul, neg, signed, umad, word}
 use Rattle.words.proofs.Signed.{abs-lt, iabs-is, signed-high, signed-low, word-negsuc, word-pos}
-use Rattle.words.proofs.Numbers.{complement-shr, product-lt}
+use Rattle.words.proofs.Numbers.{complement-shr}
 use Prim.Native.Nat.{_%_, _*_, _+_, _-_, _/_, _<_, _^_, _≤_, suc, zero, ℕ}
 use mathlib.Core.Path.{_∙_, _≡_, ap, ap₂, sym}
 use native.Mathlib.Omega.{arith}
-use native.Mathlib.Nat.{add-assoc, add-comm, add-left-comm, add-mod, add-mul, div-add-mod', mod-add-mod, mod-eq-of-lt, mod-self, mul-add, mul-add-div-right, mul-add-mod-self-right, mul-assoc, mul-comm, mul-left-comm, sub-zero, zero-div}
-use lib.Pow.{pow-pos, shr-lt}
+use native.Mathlib.Nat.{add-assoc, add-comm, add-left-comm, add-mod, add-mul, div-add-mod', le-of-lt, lt-of-le-of-lt, mod-add-mod, mod-eq-of-lt, mod-self, mul-add, mul-add-div-right, mul-add-mod-self-right, mul-assoc, mul-comm, mul-le-mul-left, mul-left-comm, mul-lt-mul-of-pos-right, sub-zero, zero-div}
+use lib.Pow.{pow-add, pow-pos, shr-lt}
 use lib.Arith.{mod-mul}
 use lib.IntN.{natAbs, negℤ, pos}
 use lib.Signed.{shrZ}
+
+-- the product of two numbers of k bits has at most 2 k bits
+pub product-lt : (k : ℕ) {a b : ℕ} → a < 2 ^ k → b < 2 ^ k → a * b < 2 ^ (k + k)
+product-lt k {a} {b} ha hb =
+    rw pow-add (lt-of-le-of-lt (mul-le-mul-left a (le-of-lt hb)) (mul-lt-mul-of-pos-right ha (pow-pos k)))
 
 -- the product of two numbers of two digits, in base P, without its upper two digits
 mul-digits : (P a₀ a₁ b₀ b₁ : ℕ) → zero < P
