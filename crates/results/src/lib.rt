@@ -1,9 +1,9 @@
 // Results by kind. Each family is a match over its kinds, in document 01's order.
+use bitfields::bfi32;
+use bitfields::ibfe32;
+use bitfields::ubfe32;
 use bits::and32;
 use bits::brev32;
-use bits::fields::bfi32;
-use bits::fields::ibfe32;
-use bits::fields::ubfe32;
 use bits::imsb32;
 use bits::lsb32;
 use bits::not32;

@@ -1,9 +1,9 @@
 -- The bits above the offset, modulo the power.
-use Rattle.bits.proofs.BitFields.{cut-fits, cut-is, power-pos}
+use Rattle.bitfields.proofs.Fields.{cut-fits, cut-is, power-pos}
 use borrow.Author.Needs.{needs}
 use native.Mathlib.Omega.{arith}
-use Rattle.bits.proofs.fields.cut.Statement.{statement}
-use Rattle.bits.proofs.fields.cut.Tie as tie
+use Rattle.bitfields.proofs.cut.Statement.{statement}
+use Rattle.bitfields.proofs.cut.Tie as tie
 
 pub cut-spec : {M : Type 1} → statement M
 cut-spec =

@@ -1,11 +1,11 @@
 -- Outside 0, of no bits 0, else the field as it is cut, extended.
-use Rattle.bits.proofs.BitFields.{cut-lt, ibfe-in, ibfe-none, ibfe-out, inside, inside-bits}
+use Rattle.bitfields.proofs.Fields.{cut-lt, ibfe-in, ibfe-none, ibfe-out, inside, inside-bits}
 use mathlib.Core.Path.{refl}
 use borrow.Author.Needs.{needs}
 use native.Mathlib.Nat.{pos-of-ne-zero}
 use lib.Dec.{lit<}
-use Rattle.bits.proofs.fields.ibfe32.Statement.{statement}
-use Rattle.bits.proofs.fields.ibfe32.Tie as tie
+use Rattle.bitfields.proofs.ibfe32.Statement.{statement}
+use Rattle.bitfields.proofs.ibfe32.Tie as tie
 
 pub ibfe32-spec : {M : Type 1} → statement M
 ibfe32-spec =

@@ -1,10 +1,10 @@
 -- Outside the base, else the base with the field.
-use Rattle.bits.proofs.BitFields.{bfi-in, bfi-out, inside}
+use Rattle.bitfields.proofs.Fields.{bfi-in, bfi-out, inside}
 use mathlib.Core.Path.{refl}
 use borrow.Author.Needs.{needs}
 use lib.Dec.{lit<}
-use Rattle.bits.proofs.fields.bfi32.Statement.{statement}
-use Rattle.bits.proofs.fields.bfi32.Tie as tie
+use Rattle.bitfields.proofs.bfi32.Statement.{statement}
+use Rattle.bitfields.proofs.bfi32.Tie as tie
 
 pub bfi32-spec : {M : Type 1} → statement M
 bfi32-spec =

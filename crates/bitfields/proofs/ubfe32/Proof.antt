@@ -1,10 +1,10 @@
 -- Outside 0, else the field as it is cut.
-use Rattle.bits.proofs.BitFields.{inside, ubfe-in, ubfe-out}
+use Rattle.bitfields.proofs.Fields.{inside, ubfe-in, ubfe-out}
 use mathlib.Core.Path.{refl}
 use borrow.Author.Needs.{needs}
 use lib.Dec.{lit<}
-use Rattle.bits.proofs.fields.ubfe32.Statement.{statement}
-use Rattle.bits.proofs.fields.ubfe32.Tie as tie
+use Rattle.bitfields.proofs.ubfe32.Statement.{statement}
+use Rattle.bitfields.proofs.ubfe32.Tie as tie
 
 pub ubfe32-spec : {M : Type 1} → statement M
 ubfe32-spec =

@@ -1,9 +1,9 @@
 -- The bits above, the field and the bits below, put together, fit 32 bits.
-use Rattle.bits.proofs.BitFields.{above-fits, inserted-fits, inserted-is, upper-fits}
+use Rattle.bitfields.proofs.Fields.{above-fits, inserted-fits, inserted-is, upper-fits}
 use borrow.Author.Needs.{needs}
 use native.Mathlib.Omega.{arith}
-use Rattle.bits.proofs.fields.inserted.Statement.{statement}
-use Rattle.bits.proofs.fields.inserted.Tie as tie
+use Rattle.bitfields.proofs.inserted.Statement.{statement}
+use Rattle.bitfields.proofs.inserted.Tie as tie
 
 pub inserted-spec : {M : Type 1} → statement M
 inserted-spec =

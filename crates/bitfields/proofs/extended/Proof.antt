@@ -1,10 +1,10 @@
 -- Below the sign bit the field is its own word; else its complement is taken from all ones.
-use Rattle.bits.proofs.BitFields.{extended-fits, extended-high, extended-low, extended-rest, power-pos}
+use Rattle.bitfields.proofs.Fields.{extended-fits, extended-high, extended-low, extended-rest, power-pos}
 use mathlib.Core.Path.{refl}
 use borrow.Author.Needs.{needs}
 use native.Mathlib.Omega.{arith}
-use Rattle.bits.proofs.fields.extended.Statement.{statement}
-use Rattle.bits.proofs.fields.extended.Tie as tie
+use Rattle.bitfields.proofs.extended.Statement.{statement}
+use Rattle.bitfields.proofs.extended.Tie as tie
 
 pub extended-spec : {M : Type 1} → statement M
 extended-spec =

@@ -1,8 +1,8 @@
 -- A power below 2^64 is not cut.
-use Rattle.bits.proofs.BitFields.{power-is}
+use Rattle.bitfields.proofs.Fields.{power-is}
 use borrow.Author.Needs.{needs}
-use Rattle.bits.proofs.fields.power.Statement.{statement}
-use Rattle.bits.proofs.fields.power.Tie as tie
+use Rattle.bitfields.proofs.power.Statement.{statement}
+use Rattle.bitfields.proofs.power.Tie as tie
 
 pub power-spec : {M : Type 1} → statement M
 power-spec =

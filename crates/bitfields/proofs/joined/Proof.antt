@@ -1,9 +1,9 @@
 -- 32 bits and at most 32 bits fit 64.
-use Rattle.bits.proofs.BitFields.{high-fits, joined-fits, joined-is, power-pos}
+use Rattle.bitfields.proofs.Fields.{high-fits, joined-fits, joined-is, power-pos}
 use borrow.Author.Needs.{needs}
 use native.Mathlib.Omega.{arith}
-use Rattle.bits.proofs.fields.joined.Statement.{statement}
-use Rattle.bits.proofs.fields.joined.Tie as tie
+use Rattle.bitfields.proofs.joined.Statement.{statement}
+use Rattle.bitfields.proofs.joined.Tie as tie
 
 pub joined-spec : {M : Type 1} → statement M
 joined-spec =
