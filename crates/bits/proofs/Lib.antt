@@ -2,4 +2,3 @@ pub mod Bitwise
 pub mod WordBits
 pub mod Counts
 pub mod Reversal
-pub mod BitFields

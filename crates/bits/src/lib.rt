@@ -1,12 +1,11 @@
-// The bits of words of 32 and of 64 bits: AND OR XOR NOT, POPC LSB UMSB IMSB, BREV, and one bit of many words; shifts and
-// fields in modules of their own. Of crate `words`, specs/Word.antt says what each returns.
+// The bits of words of 32 and of 64 bits: AND OR XOR NOT, POPC LSB UMSB IMSB, BREV, and one bit of many words; the
+// shifts in a module of their own. Of crate `words`, specs/Word.antt says what each returns.
 use words::sums::LEAST32;
 ghost use mathlib.Core.Path.{_≡_};
 ghost use lib.Bits.{bitAnd, bitOr, bitXor};
 ghost use Rattle.words.specs.Word.{bitIn, compl, popc, lsb, umsb, imsb, brev};
 
 pub mod shifts; // SHL USHR ISHR
-pub mod fields; // UBFE IBFE BFI
 
 // AND, ATOMAND.
 pub fn and32(a: u32, b: u32) -> u32

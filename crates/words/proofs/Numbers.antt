@@ -4,7 +4,7 @@ use mathlib.Core.Path.{_∙_, _≡_, ap, sym}
 use mathlib.Core.Logic.{_⊎_, inl, inr, ⊎-elim}
 use native.Mathlib.Omega.{arith}
 use native.Mathlib.Decide.{decLt}
-use native.Mathlib.Nat.{add-mul, le-of-lt, lt-irrefl, lt-of-le-of-lt, lt-of-lt-of-le, mod-lt, mul-le-mul-left, mul-lt-mul-of-pos-right, one-mul}
+use native.Mathlib.Nat.{add-mul, lt-irrefl, lt-of-lt-of-le, mod-lt, one-mul}
 use borrow.Author.Tests.{le-ltb, lt-ltb}
 use lib.Dec.{ltb}
 use lib.Pow.{pow-add, pow-pos, shr-lt, split}
@@ -28,11 +28,6 @@ ltb-same a b m n f g = ⊎-elim (λ (h : a < b). yes-yes h) (λ (h : b ≤ a). n
     no-no h =
         le-ltb a b h
         ∙ sym (⊎-elim (λ (k : m < n). absurd (lt-irrefl a (lt-of-lt-of-le (g k) h))) (λ (k : n ≤ m). le-ltb m n k) (below-or-not m n))
-
--- the product of two numbers of k bits has at most 2 k bits
-pub product-lt : (k : ℕ) {a b : ℕ} → a < 2 ^ k → b < 2 ^ k → a * b < 2 ^ (k + k)
-product-lt k {a} {b} ha hb =
-    rw pow-add (lt-of-le-of-lt (mul-le-mul-left a (le-of-lt hb)) (mul-lt-mul-of-pos-right ha (pow-pos k)))
 
 -- what is above the k low bits of a complement is the complement of what is above them
 pub complement-shr : (j k x : ℕ) → x < 2 ^ (j + k) → (2 ^ (j + k) - 1 - x) / 2 ^ k ≡ 2 ^ j - 1 - x / 2 ^ k

@@ -1,15 +1,14 @@
--- Two's complement over the width: a word's signed value and back, its magnitude, its sign, the signed order and the signed shift.
+-- Two's complement over the width: a word's signed value and back, its magnitude, its sign and the signed shift.
 -- The laws go by the sign, a word in the lower half of the range or in the upper; they are cited as `LAW 32 refl` and `LAW 64 refl`.
-use Rattle.words.specs.Word.{add, iabs, neg, signed, slt, ssg, word}
-use Rattle.words.proofs.Numbers.{below-or-not, ltb-same}
+use Rattle.words.specs.Word.{iabs, neg, signed, ssg, word}
+use Rattle.words.proofs.Numbers.{below-or-not}
 use Prim.Native.Nat.{_%_, _+_, _-_, _/_, _<_, _^_, _≤_, suc, zero, ℕ}
 use mathlib.Core.Path.{_∙_, _≡_, ap, sym}
 use mathlib.Core.Logic.{⊎-elim}
 use native.Mathlib.Omega.{arith}
-use native.Mathlib.Nat.{div-le-self, mod-eq-of-lt, mod-eq-sub-mod, mod-self, pos-of-ne-zero, sub-zero, zero-mod}
+use native.Mathlib.Nat.{div-le-self, mod-eq-of-lt, mod-self, pos-of-ne-zero, sub-zero, zero-mod}
 use borrow.Author.Tests.{le-ltb, lt-ltb}
-use lib.Dec.{ltb}
-use lib.Pow.{high, low, pow-pos}
+use lib.Pow.{pow-pos}
 use lib.IntN.{natAbs, negsuc, negℤ, pos, ℤ}
 use lib.Signed.{shrZ}
 
@@ -87,41 +86,6 @@ module _ (w : ℕ) (halves : 2 ^ w ≡ 2 ^ (w - 1) + 2 ^ (w - 1)) where
   pub ssg-high : (a : ℕ) → a < 2 ^ w → 2 ^ (w - 1) ≤ a → 2 ^ w - 1 ≡ ssg w a
   unfolding ssg
   ssg-high a l h = simp (signed-high a h l)
-
-  -- ---- the order: half the range added makes it the unsigned one
-
-  moved-low : (a : ℕ) → a < 2 ^ (w - 1) → add w a (2 ^ (w - 1)) ≡ a + 2 ^ (w - 1)
-  moved-low a h = mod-eq-of-lt (omega arith)
-
-  moved-high : (a : ℕ) → 2 ^ (w - 1) ≤ a → a < 2 ^ w → add w a (2 ^ (w - 1)) ≡ a - 2 ^ (w - 1)
-  moved-high a h l =
-      mod-eq-sub-mod {n = a + 2 ^ (w - 1)} {m = 2 ^ w} (omega arith)
-      ∙ mod-eq-of-lt {n = a + 2 ^ (w - 1) - 2 ^ w} {m = 2 ^ w} (omega arith)
-      ∙ (omega arith)
-
-  module _ (a b : ℕ) (la : a < 2 ^ w) (lb : b < 2 ^ w) where
-    moved-low-low : a < 2 ^ (w - 1) → b < 2 ^ (w - 1) → ltb (a + 2 ^ (w - 1)) (b + 2 ^ (w - 1)) ≡ slt w a b
-    moved-low-low p q =
-        ltb-same (a + 2 ^ (w - 1)) (b + 2 ^ (w - 1)) a b (λ h. omega arith) (λ h. omega arith) ∙ cc (signed-low a p, signed-low b q)
-
-    moved-low-high : a < 2 ^ (w - 1) → 2 ^ (w - 1) ≤ b → ltb (a + 2 ^ (w - 1)) (b - 2 ^ (w - 1)) ≡ slt w a b
-    moved-low-high p q = le-ltb (a + 2 ^ (w - 1)) (b - 2 ^ (w - 1)) (omega arith) ∙ cc (signed-low a p, signed-high b q lb)
-
-    moved-high-low : 2 ^ (w - 1) ≤ a → b < 2 ^ (w - 1) → ltb (a - 2 ^ (w - 1)) (b + 2 ^ (w - 1)) ≡ slt w a b
-    moved-high-low p q = lt-ltb (a - 2 ^ (w - 1)) (b + 2 ^ (w - 1)) (omega arith) ∙ cc (signed-high a p la, signed-low b q)
-
-    moved-high-high : 2 ^ (w - 1) ≤ a → 2 ^ (w - 1) ≤ b → ltb (a - 2 ^ (w - 1)) (b - 2 ^ (w - 1)) ≡ slt w a b
-    moved-high-high p q =
-        ltb-same (a - 2 ^ (w - 1)) (b - 2 ^ (w - 1)) (2 ^ w - suc b) (2 ^ w - suc a) (λ h. omega arith) (λ h. omega arith)
-        ∙ cc (signed-high a p la, signed-high b q lb)
-
-    pub slt-is : (x y : ℕ) → x ≡ add w a (2 ^ (w - 1)) → y ≡ add w b (2 ^ (w - 1)) → ltb x y ≡ slt w a b
-    slt-is x y ex ey =
-        by-sign a
-        (λ p. by-sign b (λ q. cc (moved-low a p, moved-low b q, moved-low-low p q))
-        (λ q. cc (moved-low a p, moved-high b q lb, moved-low-high p q)))
-        (λ p. by-sign b (λ q. cc (moved-high a p la, moved-low b q, moved-high-low p q))
-        (λ q. cc (moved-high a p la, moved-high b q lb, moved-high-high p q)))
 
   -- ---- the shift: a negative word's complement is shifted
 

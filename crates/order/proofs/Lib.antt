@@ -1,0 +1,2 @@
+pub mod SignedOrder
+pub mod Least
