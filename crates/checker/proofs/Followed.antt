@@ -16,7 +16,7 @@ use lib.ListN.{length, getD, length-append}
 use borrow.Author.Tests.{lt-ltb, ltb-true, ltb-false, leb-false, eqb-true, eqb-false, not-false}
 use Rattle.format.specs.Records.{longest, sizeAt, placeFrom}
 use Rattle.format.specs.Fields.{declarationAt, caseWord}
-use Rattle.format.proofs.Walk.{place-step}
+use Rattle.records.proofs.Walk.{place-step}
 use Rattle.format.specs.Refusals.{tooLong, byteAfterEnd, lateDeclaration, tooMany, fieldRuleBroken, overlapping, noEnd}
 use Rattle.blocks.specs.Control.{Op, END, is, opOf}
 use Rattle.blocks.specs.Nesting.{accepts}

@@ -10,7 +10,7 @@ use lib.ListN.{length, getD, take}
 use borrow.Author.Tests.{eq-eqb, ne-eqb, le-leb, lt-leb, leb-false, eqb-false, not-false}
 use Rattle.format.specs.Records.{sizeAt}
 use Rattle.format.specs.Fields.{caseWord}
-use Rattle.format.proofs.Walk.{size-fits}
+use Rattle.records.proofs.Walk.{size-fits}
 use Rattle.format.specs.Refusals.{tooMany, fieldRuleBroken, notDeclared}
 use Rattle.blocks.specs.Control.{opOf}
 use Rattle.blocks.specs.Nesting.{goes, refused, rule}

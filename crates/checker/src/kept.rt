@@ -68,7 +68,7 @@ fn put_word(words: &mut [u32; 1024], n: usize, file: &[u8], at: usize)
     requires { ⌜ n < 1024 ⌝ }
     ensures { λ r. ⌜ now (words .exit) ≡ set (now (words .entry)) n (word32 (now (file .entry)) at) ⌝ }
 {
-    words[n] = format::fields::u32_at(file, at);
+    words[n] = readers::u32_at(file, at);
 }
 
 // Writes the four words that stand at a place of the file, from word n on.

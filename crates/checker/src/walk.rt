@@ -63,7 +63,7 @@ fn declaration(s: State, file: &[u8], at: usize, next: usize) -> Taken
             state: s,
         };
     }
-    let d = format::fields::declaration_at(file, at + 1);
+    let d = readers::declaration_at(file, at + 1);
     if !sets::declaration_allowed(d) {
         return Taken {
             refusal: refusals::FIELD_RULE_BROKEN,
@@ -136,7 +136,7 @@ fn word_of(n: u32, words: &[u32], file: &[u8], at: usize) -> u32
     ensures { λ r. ⌜ r ≡ caseWord (take (4 * n) (now (words .entry))) (now (file .entry)) at ⌝ }
 {
     let end = 4 * n as usize;
-    format::fields::case_word(&words[..end], file, at)
+    readers::case_word(&words[..end], file, at)
 }
 
 // The state after an instruction that the rules of nesting let pass, or their refusal.
@@ -192,7 +192,7 @@ fn instruction(
     ensures sound { λ r. ⌜ Sound (r .state) × (r .state .program .immediates ≡ s .program .immediates) × Trees (r .state .blocks) (now (values .exit)) (now (links .exit)) ⌝ }
 {
     let p = s.program;
-    let kind = format::fields::byte_at(file, at);
+    let kind = readers::byte_at(file, at);
     let number = operand_refusal(p, kind, file, at as u32);
     if number != 0 {
         return Taken {
@@ -217,14 +217,14 @@ fn record(
     ensures found { λ r. ⌜ findingOf r (now (words .exit)) (now (values .exit)) ≡ recordFinding (seen s (now (words .entry)) (now (values .entry))) (now (file .entry)) at ⌝ }
     ensures sound { λ r. ⌜ Sound (r .state) × Padded (r .state .program .immediates) (now (words .exit)) × Trees (r .state .blocks) (now (values .exit)) (now (links .exit)) ⌝ }
 {
-    let kind = format::fields::byte_at(file, at);
+    let kind = readers::byte_at(file, at);
     if format::kinds::body_length(kind) == format::kinds::UNKNOWN {
         return Taken {
             refusal: refusals::UNKNOWN_KIND,
             state: s,
         };
     }
-    let size = format::records::size_at(file, at);
+    let size = records::size_at(file, at);
     if size == 0 {
         return Taken {
             refusal: refusals::BODY_CUT,
@@ -297,7 +297,7 @@ fn take_turn(
     let taken = record(s, file, at, words, values, links);
     let state = taken.state;
     let program = state.program;
-    let kind = format::fields::byte_at(file, at);
+    let kind = readers::byte_at(file, at);
     Turn {
         state,
         way: way_after(taken.refusal, kind, program.instructions, at, file.len()),
@@ -334,7 +334,7 @@ pub fn walk(
             let program = s.program;
             return Checked { verdict, program };
         }
-        at += format::records::size_at(file, at);
+        at += records::size_at(file, at);
     }
     let program = s.program;
     Checked {

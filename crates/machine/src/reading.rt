@@ -1,7 +1,7 @@
 // All sources of an instruction.
-use format::fields::source_at;
 use format::kinds::first_source;
 use format::kinds::sources_of;
+use readers::source_at;
 use sources::bank::Bank;
 use sources::operands::read;
 ghost use mathlib.Core.Path.{_≡_};

@@ -87,7 +87,7 @@ fn sources_allowed(kind: u8, file: &[u8], at: u32) -> bool
     let mut place = at as usize + first_source(kind) as usize;
     let mut left = sources_of(kind);
     while left != 0 {
-        if !source_allowed(kind, format::fields::source_at(file, place)) {
+        if !source_allowed(kind, readers::source_at(file, place)) {
             return false;
         }
         place += 5;
@@ -100,7 +100,7 @@ fn sources_allowed(kind: u8, file: &[u8], at: u32) -> bool
 pub fn rules_kept(kind: u8, file: &[u8], at: u32) -> bool
     ensures { λ r. ⌜ r ≡ operandRules kind (now (file .entry)) at ⌝ }
 {
-    let destination = format::fields::destination_at(file, at as usize + 1);
+    let destination = readers::destination_at(file, at as usize + 1);
     ((destinations_of(kind) == 0) | destination_allowed(kind, destination))
         & sources_allowed(kind, file, at)
 }
@@ -128,7 +128,7 @@ fn sources_found(kind: u8, d: Declared, words: usize, file: &[u8], at: u32) -> b
     let mut place = at as usize + first_source(kind) as usize;
     let mut left = sources_of(kind);
     while left != 0 {
-        if !source_found(d, words, format::fields::source_at(file, place)) {
+        if !source_found(d, words, readers::source_at(file, place)) {
             return false;
         }
         place += 5;
@@ -148,7 +148,7 @@ fn destination_found(d: Declared, destination: Destination) -> bool
 fn registers_found(kind: u8, d: Declared, words: usize, file: &[u8], at: u32) -> bool
     ensures { λ r. ⌜ r ≡ allOperands kind (destinationFound (isIn d)) (sourceFound (isIn d) words) (now (file .entry)) at ⌝ }
 {
-    let destination = format::fields::destination_at(file, at as usize + 1);
+    let destination = readers::destination_at(file, at as usize + 1);
     ((destinations_of(kind) == 0) | destination_found(d, destination))
         & sources_found(kind, d, words, file, at)
 }

@@ -20,8 +20,8 @@ ghost use Rattle.runner.specs.Inner.Admits.{Admits, Came, Near, stopAnsw
 pub use checker::Verdict;
 pub use checker::check;
 pub use execution::Report;
-pub use format::records::record;
-pub use format::records::record_bounds;
+pub use records::record;
+pub use records::record_bounds;
 
 // What preparing answers.
 pub enum Prepared {

@@ -11,7 +11,7 @@ use lib.ListN.{length, getD, set, length-set}
 use lib.Seq.{getD-set-same, getD-set-other}
 use borrow.Author.Tests.{eq-eqb, ne-eqb, eqb-true, eqb-false}
 use Rattle.format.specs.Records.{longest, sizeAt, next, placeFrom}
-use Rattle.format.proofs.Walk.{place-fits}
+use Rattle.records.proofs.Walk.{place-fits}
 use Rattle.blocks.specs.Run.{mostInstructions}
 use Rattle.table.specs.Prepared.{kindFrom}
 use Rattle.table.specs.Inner.Rows.{Located}

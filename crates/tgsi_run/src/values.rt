@@ -21,7 +21,7 @@ pub fn put_words(bytes: &[u8], words: &mut [u32]) -> usize
     let n = least(bytes.len() / 4, words.len());
     let mut i = 0;
     while i < n {
-        words[i] = format::fields::u32_at(bytes, 4 * i);
+        words[i] = readers::u32_at(bytes, 4 * i);
         i += 1;
     }
     n

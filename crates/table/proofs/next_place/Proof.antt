@@ -1,7 +1,7 @@
 -- `next_place`: past the record, or the file's end where there is none.
 -- Assumes nothing.
 use borrow.Author.Needs.{needs}
-use Rattle.format.proofs.Walk.{walk-fits}
+use Rattle.records.proofs.Walk.{walk-fits}
 use Rattle.table.proofs.Located.{next-none, next-record}
 use Rattle.table.proofs.next_place.Statement.{statement}
 use Rattle.table.proofs.next_place.Tie as tie

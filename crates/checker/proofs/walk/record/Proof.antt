@@ -1,6 +1,6 @@
 -- An unknown kind, a cut record, and then what is found of each form.
 use borrow.Author.Needs.{needs}
-use Rattle.format.proofs.Walk.{walk-fits}
+use Rattle.records.proofs.Walk.{walk-fits}
 use Rattle.checker.proofs.Records.{record-3, record-4, record-declaration, record-immediate, record-instruction}
 use Rattle.checker.proofs.Taking.{next-is, next-small, padded-same, trees-same}
 use Rattle.checker.proofs.walk.record.Statement.{statement}

@@ -2,7 +2,7 @@
 use borrow.Author.Needs.{needs}
 use Prim.Native.Nat.{_-_, _≤_}
 use lib.ListN.{length}
-use Rattle.format.proofs.Walk.{walk-fits, size-fits-by}
+use Rattle.records.proofs.Walk.{walk-fits, size-fits-by}
 use Rattle.nesting.specs.Inner.Held.{Trees}
 use Rattle.checker.specs.Inner.Held.{seen, Sound, Padded}
 use Rattle.checker.proofs.Taking.{padded-same}

@@ -1,5 +1,5 @@
 -- A word of lent words: past their end `getD` is 0.
-use Rattle.format.proofs.Readers.{past-end}
+use Rattle.format.proofs.Ends.{past-end}
 use borrow.Author.Needs.{needs}
 use Rattle.effects.proofs.lent.word_at.Statement.{statement}
 use Rattle.effects.proofs.lent.word_at.Tie as tie

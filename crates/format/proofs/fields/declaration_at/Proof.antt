@@ -1,9 +1,0 @@
--- A declaration, field by field.
--- Assumes nothing.
-use borrow.Author.Needs.{needs}
-use Rattle.format.proofs.Readers.{declaration-is}
-use Rattle.format.proofs.fields.declaration_at.Statement.{statement}
-use Rattle.format.proofs.fields.declaration_at.Tie as tie
-
-pub declaration-at-spec : {M : Type 1} → statement M
-declaration-at-spec = tie.close (tie.spec (search needs) (search needs) (search needs) (λ c. search (needs, declaration-is)))
