@@ -4,9 +4,9 @@
 use mathlib.Core.Path.{_≡_, refl, sym, ap, _∙_}
 use mathlib.Core.Bool.{Bool, true, false, cond, not, _&&_}
 use mathlib.Core.List.{List}
-use Prim.Native.Nat.{ℕ, suc, _+_, _-_, _*_, _<_, _≤_}
+use Prim.Native.Nat.{ℕ, suc, _-_, _<_, _≤_}
 use native.Mathlib.Omega.{arith}
-use lib.Dec.{eqb, leb}
+use lib.Dec.{leb}
 use lib.ListN.{length, getD, set, List·getD-eq-default}
 use lib.Seq.{set-out}
 use borrow.Author.Tests.{eq-eqb, ne-eqb, le-leb, lt-leb, leb-false}
@@ -14,23 +14,15 @@ use Rattle.format.specs.Kinds.{within}
 use Rattle.blocks.specs.Control.{Op, PLAIN, ELSE, ENDIF, BGNLOOP, ENDLOOP, BRK, CONT, DEFAULT, ENDSWITCH, END, UIF, SWITCH, CASE, kindOf, opOf}
 use Rattle.blocks.specs.Nesting.{opens}
 use Rattle.blocks.proofs.Ops.{by-kind}
-use Rattle.nesting.specs.Search.{slotOf, ending, placeIn, isHere, hung}
+use Rattle.tree.specs.Search.{placeIn, isHere, hung}
 use Rattle.nesting.specs.Arrays.{topCode, topStart, topSet, someCode, innermostIs, innermostStart, nestingKept, switchKept, nestingRefusal, Left, leaving, popped, recoded, more, labelled, leftAfter, nestOf}
 use Rattle.nesting.specs.declared.Blocks.{Blocks}
-use Rattle.nesting.specs.declared.tree.Place.{Place}
-use Rattle.nesting.specs.declared.tree.Place.the-variants.{Here, Root, Missing}
+use Rattle.tree.specs.declared.Place.{Place}
 
 -- ---- A place outside
 
-module _ (ws : List ℕ) (n : ℕ) where
-  pub past-array : (m : ℕ) → length ws ≡ m → m ≤ n → 0 ≡ getD ws n 0
-  past-array m l h = sym (List·getD-eq-default ws 0 (omega arith))
-
-  pub past-slice : length ws ≤ n → 0 ≡ getD ws n 0
-  past-slice h = past-array (length ws) refl h
-
-  pub set-past : (v : ℕ) → length ws ≤ n → ws ≡ set ws n v
-  set-past v h = sym (set-out ws n v h)
+pub past-array : (ws : List ℕ) (n m : ℕ) → length ws ≡ m → m ≤ n → 0 ≡ getD ws n 0
+past-array ws n m l h = sym (List·getD-eq-default ws 0 (omega arith))
 
 -- ---- The innermost of n blocks
 
@@ -154,66 +146,6 @@ module _ (b : Blocks) (kind x : ℕ) (values links : List ℕ) (r : Bool) where
         on SWITCH e = refl
         on CASE e = absurd (n92 e)
         on PLAIN e = refl
-
--- ---- A search
-
-module _ (values links : List ℕ) (from end x : ℕ) where
-  pub search-root : from ≡ end → Root ≡ placeIn values links from end x
-  search-root e = rw (eq-eqb from end e)
-
-  pub search-first : (from ≡ end → ⊥) → placeIn values links from end x ≡ ending values links x (33 - 0) from 0
-  search-first n = rw (ne-eqb from end n)
-
-  -- The search has come to a node: the rest of it is the whole.
-  module _ (node depth word : ℕ) (at : word ≡ getD values node 0) (left : placeIn values links from end x ≡ ending values links x (33 - depth) node depth) (few : depth < 33) where
-    one-more : 33 - depth ≡ suc (33 - (depth + 1))
-    one-more = omega arith
-
-    pub search-here : x ≡ word → Here ≡ placeIn values links from end x
-    unfolding ending
-    search-here e = sym (left ∙ rw (one-more, eq-eqb _ _ (e ∙ at)))
-
-    module _ (other : x ≡ word → ⊥) (slot next : ℕ) (here : slot ≡ slotOf node depth x) (link : next ≡ getD links slot 0) where
-      differs : eqb x (getD values node 0) ≡ false
-      differs = ne-eqb x (getD values node 0) (λ e. other (e ∙ sym at))
-
-      link-is : getD links (slotOf node depth x) 0 ≡ next
-      link-is = sym (rw here at link)
-
-      pub search-missing : next ≡ 0 → Missing slot ≡ placeIn values links from end x
-      unfolding ending
-      search-missing z = sym (left ∙ rw (one-more, differs, link-is, eq-eqb next 0 z, here))
-
-      pub search-next : (next ≡ 0 → ⊥) → placeIn values links from end x ≡ ending values links x (33 - (depth + 1)) next (depth + 1)
-      unfolding ending
-      search-next z = left ∙ rw (one-more, differs, link-is, ne-eqb next 0 z)
-
-  pub search-out : (node depth : ℕ) → placeIn values links from end x ≡ ending values links x (33 - depth) node depth → 33 ≤ depth → Here ≡ placeIn values links from end x
-  unfolding ending
-  search-out node depth left h = let z : 33 - depth ≡ 0 = omega arith in sym (left ∙ rw z)
-
--- What the variant says.
-module _ (p q : Place) (is : p ≡ q) where
-  pub says-here : p ≡ Here → true ≡ isHere q
-  says-here e = rw (← is, e)
-
-  pub says-root : p ≡ Root → false ≡ isHere q
-  says-root e = rw (← is, e)
-
-  pub says-missing : (slot : ℕ) → p ≡ Missing slot → false ≡ isHere q
-  says-missing slot e = rw (← is, e)
-
--- ---- A node is hung
-
-module _ (links one two : List ℕ) (p : Place) (n : ℕ) (first : one ≡ set links (2 * n) 0) (second : two ≡ set one (2 * n + 1) 0) where
-  pub hung-here : p ≡ Here → two ≡ hung links p n
-  hung-here e = rw (e, second, first)
-
-  pub hung-root : p ≡ Root → two ≡ hung links p n
-  hung-root e = rw (e, second, first)
-
-  pub hung-missing : (slot : ℕ) (l : List ℕ) → p ≡ Missing slot → l ≡ set two slot n → l ≡ hung links p n
-  hung-missing slot l e q = rw (e, q, second, first)
 
 -- ---- What is left
 

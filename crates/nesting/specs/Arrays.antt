@@ -13,7 +13,7 @@ use Rattle.format.specs.Refusals.{nestingBroken, switchRuleBroken, tooDeep}
 use Rattle.blocks.specs.Control.{Op, PLAIN, ELSE, ENDIF, BGNLOOP, ENDLOOP, BRK, CONT, DEFAULT, ENDSWITCH, END, UIF, SWITCH, CASE, opOf}
 use Rattle.blocks.specs.Run.{mostInstructions}
 use Rattle.blocks.specs.Nesting.{opens, mostOpen}
-use Rattle.nesting.specs.Search.{placeIn, isHere, hung}
+use Rattle.tree.specs.Search.{placeIn, isHere, hung}
 use Rattle.nesting.specs.declared.Blocks.{Blocks}
 use Rattle.nesting.specs.declared.Nested.{Nested}
 

@@ -11,8 +11,6 @@ ghost use Rattle.blocks.specs.Control.{opOf};
 ghost use Rattle.blocks.specs.Nesting.{opens};
 ghost use Rattle.nesting.specs.Arrays.{noneOpen, innermostIs, someIs, innermostStart, nestingKept, switchKept, nestingRefusal, leaving, pushed, popped, recoded, labelled, leftAfter, nestOf};
 
-mod tree;
-
 // The open blocks, the outermost first: a code each, and where its words start. `held` is where the words end.
 pub struct Blocks {
     pub codes: [u8; 16],

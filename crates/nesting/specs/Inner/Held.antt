@@ -8,7 +8,7 @@ use lib.Dec.{eqb}
 use lib.ListN.{length, getD}
 use Rattle.blocks.specs.Nesting.{Open, openUif, openElse, openLoop, openSwitch, Ruling, goes, refused, mostOpen}
 use Rattle.nesting.specs.Arrays.{innermostStart}
-use Rattle.nesting.specs.Inner.Tree.{Tree}
+use Rattle.tree.specs.Inner.Tree.{Tree}
 use Rattle.nesting.specs.declared.Blocks.{Blocks}
 use Rattle.nesting.specs.declared.Nested.{Nested}
 

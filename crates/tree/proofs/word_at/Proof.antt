@@ -1,8 +1,8 @@
 -- Past the array the definition reads 0.
 use borrow.Author.Needs.{needs}
-use Rattle.nesting.proofs.Steps.{past-slice}
-use Rattle.nesting.proofs.tree.word_at.Statement.{statement}
-use Rattle.nesting.proofs.tree.word_at.Tie as tie
+use Rattle.tree.proofs.Steps.{past-slice}
+use Rattle.tree.proofs.word_at.Statement.{statement}
+use Rattle.tree.proofs.word_at.Tie as tie
 
 pub word-at-spec : {M : Type 1} → statement M
 word-at-spec =

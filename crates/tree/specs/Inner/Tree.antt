@@ -1,12 +1,12 @@
--- The words of a SWITCH's CASEs as a tree, as the steps of specs/Arrays keep it.
+-- The words of a SWITCH's CASEs as a tree, as a new word keeps it.
 -- Assumes nothing.
 use Prim.Native.Nat.{ℕ, _+_, _*_, _^_, _<_, _≤_}
 use mathlib.Core.Path.{_≡_}
 use mathlib.Core.List.{List}
 use lib.ListN.{getD}
 use Rattle.words.specs.Word.{bit}
-use Rattle.nesting.specs.Search.{ending, mostNodes}
-use Rattle.nesting.specs.declared.tree.Place.the-variants.{Here}
+use Rattle.tree.specs.Search.{ending, mostNodes}
+use Rattle.tree.specs.declared.Place.the-variants.{Here}
 
 -- Node c hangs from link b of node p: it came later, lies one deeper, has p's bits above p's depth, and b as its next.
 pub record Child (values : List ℕ) (end : ℕ) (level : ℕ → ℕ) (p b c : ℕ) : Type 0 where

@@ -1,8 +1,8 @@
 -- Past the array the definition reads 0.
 use borrow.Author.Needs.{needs}
-use Rattle.nesting.proofs.Steps.{past-slice}
-use Rattle.nesting.proofs.tree.linked.Statement.{statement}
-use Rattle.nesting.proofs.tree.linked.Tie as tie
+use Rattle.tree.proofs.Steps.{past-slice}
+use Rattle.tree.proofs.linked.Statement.{statement}
+use Rattle.tree.proofs.linked.Tie as tie
 
 pub linked-spec : {M : Type 1} → statement M
 linked-spec =

@@ -1,7 +1,7 @@
 -- The shifted word's lowest bit is the word's bit at the depth.
 use borrow.Author.Needs.{needs}
-use Rattle.nesting.proofs.tree.slot_of.Statement.{statement}
-use Rattle.nesting.proofs.tree.slot_of.Tie as tie
+use Rattle.tree.proofs.slot_of.Statement.{statement}
+use Rattle.tree.proofs.slot_of.Tie as tie
 
 pub slot-of-spec : {M : Type 1} → statement M
 slot-of-spec =

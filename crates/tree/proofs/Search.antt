@@ -1,25 +1,22 @@
 -- A search in the tree of a SWITCH's words: the word and the node's have the same bits up to the node's depth, so at depth 33 they are
 -- the same, and a search that looks at 33 nodes finds each word that is there and no other.
 -- Assumes nothing.
-use mathlib.Core.Path.{_≡_, refl, sym, ap, _∙_, subst}
-use mathlib.Core.Bool.{Bool, true, false, or-true}
+use mathlib.Core.Path.{_≡_, refl, sym, ap, _∙_}
+use mathlib.Core.Bool.{Bool, true, false}
 use mathlib.Core.List.{List}
-use mathlib.Core.Logic.{⊎-elim}
-use Prim.Native.Nat.{ℕ, zero, suc, _+_, _-_, _/_, _%_, _^_, _<_, _≤_}
+use Prim.Native.Nat.{ℕ, zero, suc, _+_, _/_, _%_, _^_, _<_, _≤_}
 use native.Mathlib.Omega.{arith}
-use native.Mathlib.Nat.{mod-lt, mod-one, mod-eq-of-lt, eq-or-lt-of-le}
+use native.Mathlib.Nat.{mod-lt, mod-one, mod-eq-of-lt}
 use lib.Dec.{eqb}
 use lib.ListN.{getD}
 use lib.Pow.{mod-pow-add}
 use borrow.Author.Count.{below-more}
 use borrow.Author.Tests.{eq-eqb, ne-eqb, eqb-true, eqb-false}
 use Rattle.words.specs.Word.{bit}
-use Rattle.blocks.specs.Nesting.{some}
-use Rattle.nesting.specs.Search.{slotOf, ending, mostNodes, placeIn, isHere}
-use Rattle.nesting.specs.Inner.Tree.{Tree}
-use Rattle.nesting.specs.Inner.Held.{newestFirst}
-use Rattle.nesting.specs.declared.tree.Place.{Place}
-use Rattle.nesting.specs.declared.tree.Place.the-variants.{Here, Root, Missing}
+use Rattle.tree.specs.Search.{slotOf, ending, mostNodes}
+use Rattle.tree.specs.Inner.Tree.{Tree}
+use Rattle.tree.specs.declared.Place.{Place}
+use Rattle.tree.specs.declared.Place.the-variants.{Here, Root, Missing}
 
 -- ---- Bits
 
@@ -124,11 +121,11 @@ module _ (values links : List ℕ) (from end : ℕ) (t : Tree values links from 
 -- ---- What the search says
 
 -- What was found is a word from a place to `end`.
-record Found (values : List ℕ) (from end x : ℕ) : Type 0 where
-  place : ℕ
-  after : from ≤ place
-  before : place < end
-  word : x ≡ getD values place 0
+pub record Found (values : List ℕ) (from end x : ℕ) : Type 0 where
+  pub place : ℕ
+  pub after : from ≤ place
+  pub before : place < end
+  pub word : x ≡ getD values place 0
 
 module _ (values links : List ℕ) (from end : ℕ) (t : Tree values links from end) (x : ℕ) (small : x < 2 ^ 32) where
   at-node : (node d : ℕ) → Standing values links from end t x node d → x ≡ getD values node 0 → Found values from end x
@@ -144,34 +141,5 @@ module _ (values links : List ℕ) (from end : ℕ) (t : Tree values links from 
       (λ _ z q. found-from m (getD links (slotOf node d x) 0) (d + 1) (stands-next values links from end t x node d s z) (omega arith) q)
       e
 
-some-at : (x from j : ℕ) (values : List ℕ) (n : ℕ) → j < n → x ≡ getD values (from + j) 0 → some (eqb x) (newestFirst values from n) ≡ true
-some-at x from j values zero h e = absurd (omega arith)
-some-at x from j values (suc n) h e =
-    ⊎-elim (λ q. let p : j ≡ n = omega arith in rw (eq-eqb x (getD values (from + n) 0) (rw p at e)))
-    (λ l. rw (some-at x from j values n (omega arith) e) (or-true (eqb x (getD values (from + n) 0)))) (eq-or-lt-of-le h)
-
-some-none : (x from : ℕ) (values : List ℕ) (n : ℕ) → ((j : ℕ) → j < n → x ≡ getD values (from + j) 0 → ⊥) → some (eqb x) (newestFirst values from n) ≡ false
-some-none x from values zero h = refl
-some-none x from values (suc n) h = rw (ne-eqb x _ (h n (omega arith)), some-none x from values n (λ j l. h j (omega arith)))
-
--- The search ends at the word's node where the word is one of those from a place to `end`.
-module _ (values links : List ℕ) (from end x : ℕ) (t : Tree values links from end) (small : x < 2 ^ 32) (ordered : from ≤ end) where
-  pub here-among : isHere (placeIn values links from end x) ≡ some (eqb x) (newestFirst values from (end - from))
-  here-among = ⊎-elim none (λ l. rw (ne-eqb from end (λ e. omega arith)) (by l (ending values links x mostNodes from 0) refl)) (eq-or-lt-of-le ordered) where
-    none : from ≡ end → isHere (placeIn values links from end x) ≡ some (eqb x) (newestFirst values from (end - from))
-    none e = let z : end - from ≡ 0 = omega arith in rw (eq-eqb from end e, z)
-
-    found : Found values from end x → true ≡ some (eqb x) (newestFirst values from (end - from))
-    found f =
-        let a = f .after in
-        let b = f .before in
-        let q : from + (f .place - from) ≡ f .place = omega arith in
-        sym (some-at x from (f .place - from) values (end - from) (omega arith) (rw q (f .word)))
-
-    here : (j : ℕ) → j < end - from → x ≡ getD values (from + j) 0 → ending values links x mostNodes from 0 ≡ Here
-    here j l q = subst (λ (y : ℕ). ending values links y mostNodes from 0 ≡ Here) (sym q) (t .all (from + j) (omega arith) (omega arith))
-
-    by : from < end → (p : Place) → ending values links x mostNodes from 0 ≡ p → isHere p ≡ some (eqb x) (newestFirst values from (end - from))
-    by l Here e = found (found-from values links from end t x small mostNodes from 0 (stands-first values links from end t x l) refl e)
-    by l Root e = absurd (never-root values links x mostNodes from 0 e)
-    by l (Missing slot) e = sym (some-none x from values (end - from) (λ j u q. missing-not-here slot (sym e ∙ here j u q)))
+  pub found-first : from < end → ending values links x mostNodes from 0 ≡ Here → Found values from end x
+  found-first h e = found-from mostNodes from 0 (stands-first values links from end t x h) refl e

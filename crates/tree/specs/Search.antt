@@ -8,8 +8,8 @@ use mathlib.Core.List.{List}
 use lib.Dec.{eqb}
 use lib.ListN.{getD, set}
 use Rattle.words.specs.Word.{bit}
-use Rattle.nesting.specs.declared.tree.Place.{Place}
-use Rattle.nesting.specs.declared.tree.Place.the-variants.{Here, Root, Missing}
+use Rattle.tree.specs.declared.Place.{Place}
+use Rattle.tree.specs.declared.Place.the-variants.{Here, Root, Missing}
 
 -- The link of a node of depth d below which x lies where the node holds another word.
 abbrev pub slotOf : ℕ → ℕ → ℕ → ℕ

@@ -13,11 +13,11 @@ use lib.ListN.{length, getD, set, length-set}
 use lib.Seq.{getD-set-same, getD-set-other}
 use borrow.Author.Tests.{eq-eqb, ne-eqb, eqb-true, eqb-false}
 use Rattle.words.specs.Word.{bit}
-use Rattle.nesting.specs.Search.{slotOf, ending, mostNodes, placeIn, cleared, hung}
-use Rattle.nesting.specs.Inner.Tree.{Child, Tree}
-use Rattle.nesting.specs.declared.tree.Place.{Place}
-use Rattle.nesting.specs.declared.tree.Place.the-variants.{Here, Root, Missing}
-use Rattle.nesting.proofs.Search.{bit-small, missing-not-here, root-not-missing, ends-here, ends-at, goes-on, ways, never-root, Standing, stands-first, stands-next}
+use Rattle.tree.specs.Search.{slotOf, ending, mostNodes, placeIn, cleared, hung}
+use Rattle.tree.specs.Inner.Tree.{Child, Tree}
+use Rattle.tree.specs.declared.Place.{Place}
+use Rattle.tree.specs.declared.Place.the-variants.{Here, Root, Missing}
+use Rattle.tree.proofs.Search.{bit-small, missing-not-here, root-not-missing, ends-here, ends-at, goes-on, ways, never-root, Standing, stands-first, stands-next}
 
 -- ---- Where a new node hangs
 

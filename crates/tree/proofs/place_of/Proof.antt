@@ -3,10 +3,10 @@ use borrow.Author.Needs.{needs}
 use mathlib.Core.Path.{_≡_}
 use Prim.Native.Nat.{_-_, _≤_}
 use native.Mathlib.Omega.{arith}
-use Rattle.nesting.proofs.Steps.{search-root, search-first, search-here, search-missing, search-next, search-out}
-use Rattle.nesting.specs.Search.{ending, placeIn}
-use Rattle.nesting.proofs.tree.place_of.Statement.{statement}
-use Rattle.nesting.proofs.tree.place_of.Tie as tie
+use Rattle.tree.proofs.Steps.{search-root, search-first, search-here, search-missing, search-next, search-out}
+use Rattle.tree.specs.Search.{ending, placeIn}
+use Rattle.tree.proofs.place_of.Statement.{statement}
+use Rattle.tree.proofs.place_of.Tie as tie
 
 abbrev Inv-loop : tie.InvT-loop
 Inv-loop values links from end x node₀ depth₀ node depth =

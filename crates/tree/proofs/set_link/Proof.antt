@@ -1,8 +1,8 @@
 -- Past the array the definition leaves the links.
 use borrow.Author.Needs.{needs}
-use Rattle.nesting.proofs.Steps.{set-past}
-use Rattle.nesting.proofs.tree.set_link.Statement.{statement}
-use Rattle.nesting.proofs.tree.set_link.Tie as tie
+use Rattle.tree.proofs.Steps.{set-past}
+use Rattle.tree.proofs.set_link.Statement.{statement}
+use Rattle.tree.proofs.set_link.Tie as tie
 
 pub set-link-spec : {M : Type 1} → statement M
 set-link-spec =

@@ -1,8 +1,8 @@
 -- The word is there where its node is found.
 use borrow.Author.Needs.{needs}
-use Rattle.nesting.proofs.Steps.{says-here, says-root, says-missing}
-use Rattle.nesting.proofs.tree.has_value.Statement.{statement}
-use Rattle.nesting.proofs.tree.has_value.Tie as tie
+use Rattle.tree.proofs.Steps.{says-here, says-root, says-missing}
+use Rattle.tree.proofs.has_value.Statement.{statement}
+use Rattle.tree.proofs.has_value.Tie as tie
 
 pub has-value-spec : {M : Type 1} → statement M
 has-value-spec =

@@ -1,8 +1,8 @@
 -- The links are set one after the other, as in the definition.
 use borrow.Author.Needs.{needs}
-use Rattle.nesting.proofs.Steps.{hung-here, hung-root, hung-missing}
-use Rattle.nesting.proofs.tree.hang.Statement.{statement}
-use Rattle.nesting.proofs.tree.hang.Tie as tie
+use Rattle.tree.proofs.Steps.{hung-here, hung-root, hung-missing}
+use Rattle.tree.proofs.hang.Statement.{statement}
+use Rattle.tree.proofs.hang.Tie as tie
 
 pub hang-spec : {M : Type 1} → statement M
 hang-spec =

@@ -3,7 +3,7 @@
 ghost use mathlib.Core.Path.{_≡_};
 ghost use Prim.Native.Nat.{_<_};
 ghost use lib.ListN.{getD, set};
-ghost use Rattle.nesting.specs.Search.{slotOf, placeIn, isHere, hung};
+ghost use Rattle.tree.specs.Search.{slotOf, placeIn, isHere, hung};
 
 // Where the search for a word ends.
 pub enum Place {
