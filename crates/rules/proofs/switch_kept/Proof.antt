@@ -1,8 +1,8 @@
 -- Each arm asks what the definition asks for its kind.
 use borrow.Author.Needs.{needs}
-use Rattle.nesting.proofs.Steps.{default-kept, endswitch-kept, case-kept, others-kept}
-use Rattle.nesting.proofs.switch_kept.Statement.{statement}
-use Rattle.nesting.proofs.switch_kept.Tie as tie
+use Rattle.rules.proofs.Steps.{default-kept, endswitch-kept, case-kept, others-kept}
+use Rattle.rules.proofs.switch_kept.Statement.{statement}
+use Rattle.rules.proofs.switch_kept.Tie as tie
 
 pub switch-kept-spec : {M : Type 1} → statement M
 switch-kept-spec =

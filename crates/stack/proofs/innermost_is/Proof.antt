@@ -1,8 +1,8 @@
 -- The code of the last block, or that of none.
 use borrow.Author.Needs.{needs}
-use Rattle.nesting.proofs.Steps.{no-code, top-code}
-use Rattle.nesting.proofs.innermost_is.Statement.{statement}
-use Rattle.nesting.proofs.innermost_is.Tie as tie
+use Rattle.stack.proofs.Steps.{no-code, top-code}
+use Rattle.stack.proofs.innermost_is.Statement.{statement}
+use Rattle.stack.proofs.innermost_is.Tie as tie
 
 pub innermost-is-spec : {M : Type 1} → statement M
 innermost-is-spec =

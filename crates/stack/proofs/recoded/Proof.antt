@@ -1,8 +1,8 @@
 -- A block past the array has no code to change.
 use borrow.Author.Needs.{needs}
-use Rattle.nesting.proofs.Steps.{recoded-none, recoded-outside, recoded-top}
-use Rattle.nesting.proofs.recoded.Statement.{statement}
-use Rattle.nesting.proofs.recoded.Tie as tie
+use Rattle.stack.proofs.Steps.{recoded-none, recoded-outside, recoded-top}
+use Rattle.stack.proofs.recoded.Statement.{statement}
+use Rattle.stack.proofs.recoded.Tie as tie
 
 pub recoded-spec : {M : Type 1} → statement M
 recoded-spec =

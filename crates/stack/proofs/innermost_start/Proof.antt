@@ -1,8 +1,8 @@
 -- Where the last block starts, or where the words end.
 use borrow.Author.Needs.{needs}
-use Rattle.nesting.proofs.Steps.{no-start, start-outside, top-start}
-use Rattle.nesting.proofs.innermost_start.Statement.{statement}
-use Rattle.nesting.proofs.innermost_start.Tie as tie
+use Rattle.stack.proofs.Steps.{no-start, start-outside, top-start}
+use Rattle.stack.proofs.innermost_start.Statement.{statement}
+use Rattle.stack.proofs.innermost_start.Tie as tie
 
 pub innermost-start-spec : {M : Type 1} → statement M
 innermost-start-spec =

@@ -1,8 +1,8 @@
 -- Where no block is open nothing changes.
 use borrow.Author.Needs.{needs}
-use Rattle.nesting.proofs.Steps.{popped-none, popped-top}
-use Rattle.nesting.proofs.popped.Statement.{statement}
-use Rattle.nesting.proofs.popped.Tie as tie
+use Rattle.stack.proofs.Steps.{popped-none, popped-top}
+use Rattle.stack.proofs.popped.Statement.{statement}
+use Rattle.stack.proofs.popped.Tie as tie
 
 pub popped-spec : {M : Type 1} → statement M
 popped-spec =

@@ -1,8 +1,8 @@
 -- The tests come in the order of the numbers, as in the definition.
 use borrow.Author.Needs.{needs}
-use Rattle.nesting.proofs.Steps.{refusal-10, refusal-11, refusal-12, refusal-none}
-use Rattle.nesting.proofs.nesting_refusal.Statement.{statement}
-use Rattle.nesting.proofs.nesting_refusal.Tie as tie
+use Rattle.rules.proofs.Steps.{refusal-10, refusal-11, refusal-12, refusal-none}
+use Rattle.rules.proofs.nesting_refusal.Statement.{statement}
+use Rattle.rules.proofs.nesting_refusal.Tie as tie
 
 pub nesting-refusal-spec : {M : Type 1} → statement M
 nesting-refusal-spec =

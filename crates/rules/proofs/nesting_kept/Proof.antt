@@ -1,10 +1,10 @@
 -- Each arm asks what the definition asks for its kind.
 use borrow.Author.Needs.{needs}
 use Rattle.blocks.specs.Control.{opOf}
-use Rattle.nesting.specs.Arrays.{nestingKept}
-use Rattle.nesting.proofs.Steps.{kept-by, nested-anyway}
-use Rattle.nesting.proofs.nesting_kept.Statement.{statement}
-use Rattle.nesting.proofs.nesting_kept.Tie as tie
+use Rattle.rules.specs.Kept.{nestingKept}
+use Rattle.rules.proofs.Steps.{kept-by, nested-anyway}
+use Rattle.rules.proofs.nesting_kept.Statement.{statement}
+use Rattle.rules.proofs.nesting_kept.Tie as tie
 
 pub nesting-kept-spec : {M : Type 1} → statement M
 unfolding opOf nestingKept

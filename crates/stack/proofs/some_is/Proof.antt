@@ -1,10 +1,10 @@
 -- The blocks inside the n-th have other codes, so some block has one where one of n has.
 use borrow.Author.Needs.{needs}
 use mathlib.Core.Path.{_≡_, refl}
-use Rattle.nesting.proofs.Steps.{code-found, code-on, code-end}
-use Rattle.nesting.specs.Arrays.{someIs, someCode}
-use Rattle.nesting.proofs.some_is.Statement.{statement}
-use Rattle.nesting.proofs.some_is.Tie as tie
+use Rattle.stack.proofs.Steps.{code-found, code-on, code-end}
+use Rattle.stack.specs.Arrays.{someIs, someCode}
+use Rattle.stack.proofs.some_is.Statement.{statement}
+use Rattle.stack.proofs.some_is.Tie as tie
 
 abbrev Inv-loop : tie.InvT-loop
 Inv-loop b lo hi n₀ n = someIs lo hi b ≡ someCode lo hi (b .codes) n

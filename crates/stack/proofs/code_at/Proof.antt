@@ -1,8 +1,8 @@
 -- Past the array the definition reads 0.
 use borrow.Author.Needs.{needs}
-use Rattle.nesting.proofs.Steps.{past-array}
-use Rattle.nesting.proofs.code_at.Statement.{statement}
-use Rattle.nesting.proofs.code_at.Tie as tie
+use Rattle.stack.proofs.Steps.{past-array}
+use Rattle.stack.proofs.code_at.Statement.{statement}
+use Rattle.stack.proofs.code_at.Tie as tie
 
 pub code-at-spec : {M : Type 1} → statement M
 code-at-spec =
