@@ -13,9 +13,9 @@ use Rattle.blocks.specs.Lists.{Items, nil, one, uif, loop, switch, size, item}
 use Rattle.blocks.specs.Nesting.{opens}
 use Rattle.blocks.specs.Table.{firstLabel}
 use Rattle.blocks.proofs.Bound.{list-item, list-end}
-use Rattle.table.specs.Inner.Lists.{blockOf, opIn, listIn, blockIn}
-use Rattle.table.proofs.Laid.{cond-cases, list-fits}
-use Rattle.table.proofs.Tests.{uif-kind, loop-kind, switch-kind, else-kind, loop-or-switch, not-else, closing-cases, last-no-label}
+use Rattle.lists.specs.Lists.{blockOf, opIn, listIn, blockIn}
+use Rattle.lists.proofs.Laid.{cond-cases, list-fits}
+use Rattle.lists.proofs.Tests.{uif-kind, loop-kind, switch-kind, else-kind, loop-or-switch, not-else, closing-cases, last-no-label}
 
 -- ---- By the instruction
 

@@ -5,10 +5,10 @@ use Prim.Native.Nat.{_-_}
 use borrow.Author.Needs.{needs}
 use lib.ListN.{length}
 use Rattle.blocks.specs.Table.{firstLabel}
-use Rattle.table.specs.Inner.Lists.{opIn, listIn}
-use Rattle.table.proofs.Readers.{left-falls, label-stop, label-last, label-found, label-plain, label-opening}
-use Rattle.table.proofs.lists.next_label.Statement.{statement}
-use Rattle.table.proofs.lists.next_label.Tie as tie
+use Rattle.lists.specs.Lists.{opIn, listIn}
+use Rattle.lists.proofs.Readers.{left-falls, label-stop, label-last, label-found, label-plain, label-opening}
+use Rattle.lists.proofs.next_label.Statement.{statement}
+use Rattle.lists.proofs.next_label.Tie as tie
 
 abbrev Inv-loop : tie.InvT-loop
 Inv-loop kinds n m₀ m = firstLabel (opIn kinds) (listIn kinds m) ≡ firstLabel (opIn kinds) (listIn kinds n)

@@ -8,7 +8,7 @@ ghost use mathlib.Core.Path.{_≡_};
 ghost use Prim.Native.Nat.{_+_};
 ghost use Rattle.blocks.specs.Lists.{size};
 ghost use Rattle.blocks.specs.Table.{firstLabel};
-ghost use Rattle.table.specs.Inner.Lists.{opIn, listIn, blockIn};
+ghost use Rattle.lists.specs.Lists.{opIn, listIn, blockIn};
 
 // The number past the block that instruction n opens; n itself where it opens none.
 pub fn past_block(kinds: &[u8], n: usize) -> usize

@@ -1,4 +1,4 @@
--- The nested lists by the kinds of a program's instructions: what the functions of src/lists.rt promise.
+-- The nested lists by the kinds of a program's instructions: what the functions of src/lib.rt promise.
 -- Assumes nothing.
 use Prim.Native.Nat.{ℕ}
 use mathlib.Core.List.{List}

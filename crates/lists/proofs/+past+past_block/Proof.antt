@@ -11,16 +11,16 @@ use lib.ListN.{length}
 use Rattle.blocks.specs.Lists.{size}
 use Rattle.blocks.proofs.control.is_last.Reads as is-last-reads
 use Rattle.blocks.proofs.control.is_opening.Reads as is-opening-reads
-use Rattle.table.specs.Inner.Lists.{listIn}
-use Rattle.table.proofs.Readers.{last-within, left-falls, past-stop, past-last, past-plain, past-opening, ends-none, ends-plain, ends-other, ends-if, ends-else}
-use Rattle.table.proofs.lists.past.Reads as past
-use Rattle.table.proofs.lists.past.Kinds as past-kinds
-use Rattle.table.proofs.lists.+past+past_block.Lts-past as past-lts
-use Rattle.table.proofs.lists.past_block.Reads as past-block
-use Rattle.table.proofs.lists.past_block.Kinds as past-block-kinds
-use Rattle.table.proofs.lists.+past+past_block.Lts-past_block as past-block-lts
-use Rattle.table.proofs.lists.+past+past_block.{statement}
-use Rattle.table.proofs.lists.+past+past_block.Tie.{close}
+use Rattle.lists.specs.Lists.{listIn}
+use Rattle.lists.proofs.Readers.{last-within, left-falls, past-stop, past-last, past-plain, past-opening, ends-none, ends-plain, ends-other, ends-if, ends-else}
+use Rattle.lists.proofs.past.Reads as past
+use Rattle.lists.proofs.past.Kinds as past-kinds
+use Rattle.lists.proofs.+past+past_block.Lts-past as past-lts
+use Rattle.lists.proofs.past_block.Reads as past-block
+use Rattle.lists.proofs.past_block.Kinds as past-block-kinds
+use Rattle.lists.proofs.+past+past_block.Lts-past_block as past-block-lts
+use Rattle.lists.proofs.+past+past_block.{statement}
+use Rattle.lists.proofs.+past+past_block.Tie.{close}
 
 abbrev μ-past : Measures 1 past-kinds.ps ℕ
 μ-past κs a = 2 * (length (a .0 .now) - a .1 .0) + 1

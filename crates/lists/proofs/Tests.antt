@@ -6,8 +6,6 @@ use mathlib.Core.Logic.{_⊎_, inl, inr}
 use Prim.Native.Nat.{ℕ}
 use Rattle.blocks.specs.Control.{Op, PLAIN, ELSE, ENDIF, BGNLOOP, ENDLOOP, BRK, CONT, DEFAULT, ENDSWITCH, END, UIF, SWITCH, CASE, kindOf, is, isLabel, closes, opOf}
 use Rattle.blocks.specs.Nesting.{opens}
-use Rattle.blocks.specs.declared.Targets.{Targets}
-use Rattle.blocks.specs.Table.{jumpOf}
 use Rattle.blocks.proofs.Ops.{by-kind, not-kind}
 
 -- The kinds that the readers test for.
@@ -57,33 +55,6 @@ module _ (k : ℕ) (h : opens (opOf k) ≡ true) where
 
 pub not-else : (k : ℕ) → (k ≡ 0x81 → ⊥) → is ELSE (opOf k) ≡ false
 not-else k a = not-kind ELSE k refl a
-
--- The jump of a kind that a test found, and of all others.
-pub jump-at : (n k : ℕ) (t : Targets) → k ≡ n → jumpOf (opOf n) t ≡ jumpOf (opOf k) t
-jump-at n k t e = rw e
-
-pub no-jump : (t : Targets) (k : ℕ)
-    → (k ≡ 0x81 → ⊥)
-    → (k ≡ 0x84 → ⊥)
-    → (k ≡ 0x85 → ⊥)
-    → (k ≡ 0x86 → ⊥)
-    → 0 ≡ jumpOf (opOf k) t
-no-jump t k a d e f = by-kind (λ o. 0 ≡ jumpOf o t) k on refl
-  where
-    on : (o : Op) → k ≡ kindOf o → 0 ≡ jumpOf o t
-    on ELSE h = absurd (a h)
-    on ENDLOOP h = absurd (d h)
-    on BRK h = absurd (e h)
-    on CONT h = absurd (f h)
-    on PLAIN h = refl
-    on ENDIF h = refl
-    on BGNLOOP h = refl
-    on DEFAULT h = refl
-    on ENDSWITCH h = refl
-    on END h = refl
-    on UIF h = refl
-    on SWITCH h = refl
-    on CASE h = refl
 
 -- What holds of each mark that ends a list.
 pub closing-cases : (P : Op → Type 0) (o : Op) → closes o ≡ true → P ELSE → P ENDIF → P ENDLOOP → P ENDSWITCH → P END → P o
