@@ -19,11 +19,12 @@ use Rattle.registers.specs.Sets.{isIn}
 use Rattle.registers.specs.Found.{operandsFound}
 use Rattle.checker.specs.Findings.{nothing, Finding, due, withInstruction, nested, instructionFinding}
 use Rattle.checker.specs.Check.{programSeen}
-use Rattle.nesting.specs.Arrays.{noneOpen, nestOf}
+use Rattle.stack.specs.Arrays.{noneOpen}
+use Rattle.nesting.specs.Left.{nestOf}
 use Rattle.nesting.specs.Inner.Held.{blocksOf, Trees}
 use Rattle.nesting.proofs.Rules.{nest-says, nest-sound, nest-held, nest-trees, nest-stays, none-blocks, none-sound, none-held}
 use Rattle.checker.specs.Inner.Held.{seen, findingOf, operandRefusal, instructed, takenBy, takenOf, Padded, Sound}
-use Rattle.nesting.specs.declared.Blocks.{Blocks}
+use Rattle.stack.specs.declared.Blocks.{Blocks}
 use Rattle.nesting.specs.declared.Nested.{Nested}
 use Rattle.checker.specs.declared.program.Program.{Program}
 use Rattle.checker.specs.declared.walk.State.{State}

@@ -6,9 +6,9 @@ use crate::program::Program;
 use blocks::MOST_INSTRUCTIONS;
 use blocks::control::END;
 use format::refusals;
-use nesting::Blocks;
 use nesting::Nested;
 use registers::sets;
+use stack::Blocks;
 ghost use mathlib.Core.Path.{_≡_};
 ghost use mathlib.Core.List.{List};
 ghost use Prim.Native.Nat.{ℕ, _+_, _*_, _<_, _≤_};
@@ -244,7 +244,7 @@ fn started() -> State
 {
     State {
         program: kept::unseen(),
-        blocks: nesting::none_open(),
+        blocks: stack::none_open(),
     }
 }
 

@@ -1,6 +1,5 @@
 pub mod Steps
-pub mod Search
-pub mod Trees
+pub mod Among
 pub mod Stack
 pub mod Opening
 pub mod Searched

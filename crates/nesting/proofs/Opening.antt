@@ -12,9 +12,10 @@ use Rattle.format.specs.Kinds.{within}
 use Rattle.blocks.specs.Control.{DEFAULT, CASE}
 use Rattle.blocks.specs.Nesting.{Open, innermost, openAfter}
 use Rattle.registers.proofs.Choices.{never}
-use Rattle.nesting.specs.Arrays.{topCode, topStart, topSet, innermostIs, pushed, popped, recoded, more}
+use Rattle.stack.specs.Arrays.{topCode, topStart, topSet, innermostIs, popped, recoded}
+use Rattle.nesting.specs.Left.{pushed, more}
 use Rattle.nesting.specs.Inner.Held.{openOf, newestFirst, blocksIn, blocksOf, topValues, Stacked, SoundBlocks}
-use Rattle.nesting.specs.declared.Blocks.{Blocks}
+use Rattle.stack.specs.declared.Blocks.{Blocks}
 use Rattle.nesting.proofs.Stack.{code-cases}
 
 -- ---- What lies below

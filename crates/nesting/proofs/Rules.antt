@@ -11,9 +11,11 @@ use borrow.Author.Tests.{lt-leb, leb-false}
 use Rattle.blocks.specs.Control.{Op, PLAIN, ELSE, ENDIF, BGNLOOP, ENDLOOP, BRK, CONT, DEFAULT, ENDSWITCH, END, UIF, SWITCH, CASE, opOf}
 use Rattle.blocks.specs.Nesting.{isUif, anySwitch, nestingRule, switchRule, opens, openAfter, goes, refused, rule}
 use Rattle.registers.proofs.Choices.{never}
-use Rattle.nesting.specs.Arrays.{noneOpen, innermostIs, nestingRefusal, Left, leaving, pushed, popped, recoded, labelled, leftAfter, nestOf}
+use Rattle.stack.specs.Arrays.{noneOpen, innermostIs, popped, recoded}
+use Rattle.rules.specs.Kept.{nestingRefusal}
+use Rattle.nesting.specs.Left.{Left, leaving, pushed, labelled, leftAfter, nestOf}
 use Rattle.nesting.specs.Inner.Held.{openOf, blocksOf, topValues, rulingOf, SoundBlocks, Trees}
-use Rattle.nesting.specs.declared.Blocks.{Blocks}
+use Rattle.stack.specs.declared.Blocks.{Blocks}
 use Rattle.nesting.specs.declared.Nested.{Nested}
 use Rattle.nesting.proofs.Stack.{blocks-length, start-below, switch-by, nesting-is, switch-is}
 use Rattle.nesting.proofs.Opening.{pushed-blocks, pushed-sound, popped-blocks, popped-sound, recoded-blocks, recoded-sound, some-open, more-blocks, defaulted-blocks, more-sound}

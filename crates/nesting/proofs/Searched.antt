@@ -8,11 +8,12 @@ use native.Mathlib.Omega.{arith}
 use native.Mathlib.Numerals.{add-one}
 use lib.ListN.{length, getD, set, length-set}
 use lib.Seq.{getD-set-same, getD-set-other}
-use Rattle.nesting.specs.Search.{placeIn, hung}
-use Rattle.nesting.specs.Arrays.{topStart, innermostStart, pushed, popped, recoded, more}
+use Rattle.tree.specs.Search.{placeIn, hung}
+use Rattle.stack.specs.Arrays.{topStart, innermostStart, popped, recoded}
+use Rattle.nesting.specs.Left.{pushed, more}
 use Rattle.nesting.specs.Inner.Held.{Stacked, Treed, SoundBlocks, Trees}
-use Rattle.nesting.specs.declared.Blocks.{Blocks}
-use Rattle.nesting.proofs.Trees.{tree-none, tree-same, tree-more, hung-below, length-hung}
+use Rattle.stack.specs.declared.Blocks.{Blocks}
+use Rattle.tree.proofs.Trees.{tree-none, tree-same, tree-more, hung-below, length-hung}
 
 -- ---- Blocks are opened and closed
 

@@ -14,13 +14,14 @@ use Rattle.format.specs.Kinds.{within}
 use Rattle.blocks.specs.Control.{Op, PLAIN, ELSE, ENDIF, BGNLOOP, ENDLOOP, BRK, CONT, DEFAULT, ENDSWITCH, END, UIF, SWITCH, CASE}
 use Rattle.blocks.specs.Nesting.{Open, isUif, isElse, isLoop, isSwitch, anySwitch, some, innermost, afterSwitch, nestingRule, switchRule}
 use Rattle.registers.proofs.Choices.{and-false, le-or-lt}
-use Rattle.nesting.specs.Search.{placeIn, isHere}
-use Rattle.nesting.specs.Arrays.{topCode, topStart, someCode, innermostIs, innermostStart, wordless, unlabelled, nestingKept, switchKept}
-use Rattle.nesting.specs.Inner.Tree.{Tree}
+use Rattle.tree.specs.Search.{placeIn, isHere}
+use Rattle.stack.specs.Arrays.{topCode, topStart, someCode, innermostIs, innermostStart}
+use Rattle.rules.specs.Kept.{wordless, unlabelled, nestingKept, switchKept}
+use Rattle.tree.specs.Inner.Tree.{Tree}
 use Rattle.nesting.specs.Inner.Held.{openOf, newestFirst, blocksIn, blocksOf, topValues, Stacked, Treed, SoundBlocks, Trees}
-use Rattle.nesting.specs.declared.Blocks.{Blocks}
-use Rattle.nesting.proofs.Search.{here-among}
-use Rattle.nesting.proofs.Trees.{tree-none}
+use Rattle.stack.specs.declared.Blocks.{Blocks}
+use Rattle.nesting.proofs.Among.{here-among}
+use Rattle.tree.proofs.Trees.{tree-none}
 
 and-true : (a : Bool) → (a && true) ≡ a
 and-true true = refl

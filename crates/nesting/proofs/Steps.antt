@@ -1,221 +1,22 @@
--- What the code does to the arrays is what the definitions say. It tests a place before it reads or writes there: outside `getD`
--- is 0, and `set` leaves the list.
+-- What the code leaves is what the definitions say.
 -- Assumes nothing.
-use mathlib.Core.Path.{_≡_, refl, sym, ap, _∙_}
+use mathlib.Core.Path.{_≡_, refl, sym, _∙_}
 use mathlib.Core.Bool.{Bool, true, false, cond, not, _&&_}
 use mathlib.Core.List.{List}
-use Prim.Native.Nat.{ℕ, suc, _+_, _-_, _*_, _<_, _≤_}
+use Prim.Native.Nat.{ℕ, _<_, _≤_}
 use native.Mathlib.Omega.{arith}
-use lib.Dec.{eqb, leb}
-use lib.ListN.{length, getD, set, List·getD-eq-default}
-use lib.Seq.{set-out}
+use lib.Dec.{leb}
+use lib.ListN.{set}
 use borrow.Author.Tests.{eq-eqb, ne-eqb, le-leb, lt-leb, leb-false}
-use Rattle.format.specs.Kinds.{within}
 use Rattle.blocks.specs.Control.{Op, PLAIN, ELSE, ENDIF, BGNLOOP, ENDLOOP, BRK, CONT, DEFAULT, ENDSWITCH, END, UIF, SWITCH, CASE, kindOf, opOf}
 use Rattle.blocks.specs.Nesting.{opens}
 use Rattle.blocks.proofs.Ops.{by-kind}
-use Rattle.nesting.specs.Search.{slotOf, ending, placeIn, isHere, hung}
-use Rattle.nesting.specs.Arrays.{topCode, topStart, topSet, someCode, innermostIs, innermostStart, nestingKept, switchKept, nestingRefusal, Left, leaving, popped, recoded, more, labelled, leftAfter, nestOf}
-use Rattle.nesting.specs.declared.Blocks.{Blocks}
-use Rattle.nesting.specs.declared.tree.Place.{Place}
-use Rattle.nesting.specs.declared.tree.Place.the-variants.{Here, Root, Missing}
-
--- ---- A place outside
-
-module _ (ws : List ℕ) (n : ℕ) where
-  pub past-array : (m : ℕ) → length ws ≡ m → m ≤ n → 0 ≡ getD ws n 0
-  past-array m l h = sym (List·getD-eq-default ws 0 (omega arith))
-
-  pub past-slice : length ws ≤ n → 0 ≡ getD ws n 0
-  past-slice h = past-array (length ws) refl h
-
-  pub set-past : (v : ℕ) → length ws ≤ n → ws ≡ set ws n v
-  set-past v h = sym (set-out ws n v h)
-
--- ---- The innermost of n blocks
-
-pred : (n : ℕ) → (n ≡ 0 → ⊥) → n ≡ suc (n - 1)
-pred n h = omega arith
-
-module _ (n : ℕ) where
-  module _ (codes : List ℕ) (lo hi : ℕ) where
-    pub no-code : n ≡ 0 → within lo hi 5 ≡ within lo hi (topCode codes n)
-    no-code z = rw z refl
-
-    module _ (code : ℕ) (at : code ≡ getD codes (n - 1) 0) (some-block : n ≡ 0 → ⊥) where
-      pub top-code : within lo hi code ≡ within lo hi (topCode codes n)
-      top-code = rw at (ap (λ (m : ℕ). within lo hi (topCode codes m)) (sym (pred n some-block)))
-
-      module _ (w : Bool) (whole : w ≡ someCode lo hi codes n) where
-        pub code-found : within lo hi code ≡ true → true ≡ w
-        code-found t = sym (whole ∙ ap (someCode lo hi codes) (pred n some-block) ∙ rw (← at, t))
-
-        pub code-on : within lo hi code ≡ false → w ≡ someCode lo hi codes (n - 1)
-        code-on t = whole ∙ ap (someCode lo hi codes) (pred n some-block) ∙ rw (← at, t)
-
-    pub code-end : (w : Bool) → w ≡ someCode lo hi codes n → n ≡ 0 → false ≡ w
-    code-end w whole z = sym (whole ∙ rw z)
-
-  module _ (starts : List ℕ) (end : ℕ) where
-    pub no-start : n ≡ 0 → end ≡ topStart starts n end
-    no-start z = rw z refl
-
-    pub top-start : (n ≡ 0 → ⊥) → getD starts (n - 1) 0 ≡ topStart starts n end
-    top-start h = ap (λ (m : ℕ). topStart starts m end) (sym (pred n h))
-
-    pub start-outside : length starts ≡ 16 → (n ≡ 0 → ⊥) → 16 < n → 0 ≡ topStart starts n end
-    start-outside l h o = sym (List·getD-eq-default starts 0 (omega arith)) ∙ top-start h
-
--- ---- A block is closed, and recoded
-
-module _ (b : Blocks) where
-  pub popped-none : b .depth ≡ 0 → b ≡ popped b
-  popped-none z =
-      let d : b .depth - 1 ≡ b .depth = omega arith in
-      let s : innermostStart b ≡ b .held = sym (no-start (b .depth) (b .starts) (b .held) z) in
-      rw (d, s)
-
-  pub popped-top : (start : ℕ) → start ≡ innermostStart b → record { codes = b .codes; starts = b .starts; depth = b .depth - 1; held = start } ≡ popped b
-  popped-top start e = rw e
-
-  module _ (code : ℕ) where
-    pub recoded-none : b .depth ≡ 0 → b ≡ recoded code b
-    recoded-none z =
-        let t : topSet (b .codes) (b .depth) code ≡ b .codes = rw z refl in
-        rw t
-
-    module _ (h : b .depth ≡ 0 → ⊥) where
-      top-set : topSet (b .codes) (b .depth) code ≡ set (b .codes) (b .depth - 1) code
-      top-set = ap (λ (m : ℕ). topSet (b .codes) m code) (pred (b .depth) h)
-
-      pub recoded-outside : length (b .codes) ≡ 16 → 16 < b .depth → b ≡ recoded code b
-      recoded-outside l o = rw (top-set, set-out (b .codes) (b .depth - 1) code (omega arith))
-
-      pub recoded-top : record { codes = set (b .codes) (b .depth - 1) code; starts = b .starts; depth = b .depth; held = b .held } ≡ recoded code b
-      recoded-top = rw top-set
-
--- ---- The rules, by the kind of the instruction
-
--- An arm of kind k.
-pub kept-by : (k kind : ℕ) (b : Blocks) (r : Bool) → kind ≡ k → r ≡ nestingKept (opOf k) b → r ≡ nestingKept (opOf kind) b
-kept-by k kind b r e q = rw e q
-
-pub nested-anyway : (b : Blocks) (kind : ℕ) → (kind ≡ 0x81 → ⊥) → (kind ≡ 0x82 → ⊥) → (kind ≡ 0x84 → ⊥) → (kind ≡ 0x85 → ⊥)
-    → (kind ≡ 0x86 → ⊥) → (kind ≡ 0x87 → ⊥) → (kind ≡ 0x88 → ⊥) → (kind ≡ 0x89 → ⊥) → (kind ≡ 0x92 → ⊥) → true ≡ nestingKept (opOf kind) b
-unfolding nestingKept
-nested-anyway β kind a b c d e f g h i = by-kind (λ o. true ≡ nestingKept o β) kind on refl
-  where
-    on : (o : Op) → kind ≡ kindOf o → true ≡ nestingKept o β
-    on ELSE q = absurd (a q)
-    on ENDIF q = absurd (b q)
-    on BGNLOOP q = refl
-    on ENDLOOP q = absurd (c q)
-    on BRK q = absurd (d q)
-    on CONT q = absurd (e q)
-    on DEFAULT q = absurd (f q)
-    on ENDSWITCH q = absurd (g q)
-    on END q = absurd (h q)
-    on UIF q = refl
-    on SWITCH q = refl
-    on CASE q = absurd (i q)
-    on PLAIN q = refl
-
-module _ (b : Blocks) (kind x : ℕ) (values links : List ℕ) (r : Bool) where
-  pub default-kept : kind ≡ 0x87 → r ≡ innermostIs 3 3 b → r ≡ switchKept (opOf kind) x b values links
-  unfolding switchKept opOf
-  default-kept e q = rw e q
-
-  module _ (start : ℕ) (starts : start ≡ innermostStart b) where
-    pub endswitch-kept : kind ≡ 0x88 → r ≡ innermostIs 3 4 b → (r && not (leb (b .held) start)) ≡ switchKept (opOf kind) x b values links
-    unfolding switchKept opOf
-    endswitch-kept e q = rw (e, q, starts) refl
-
-    pub case-kept : (h : Bool) → kind ≡ 0x92 → r ≡ innermostIs 3 3 b → h ≡ isHere (placeIn values links start (b .held) x)
-        → (r && not h) ≡ switchKept (opOf kind) x b values links
-    unfolding switchKept opOf
-    case-kept h e q s = rw (e, q, s, starts) refl
-
-    pub others-kept : (kind ≡ 0x87 → ⊥) → (kind ≡ 0x88 → ⊥) → (kind ≡ 0x92 → ⊥) → r ≡ innermostIs 3 3 b
-        → not (r && leb (b .held) start) ≡ switchKept (opOf kind) x b values links
-    unfolding switchKept
-    others-kept n87 n88 n92 q = rw (q, starts) (by-kind (λ o. not (innermostIs 3 3 b && leb (b .held) (innermostStart b)) ≡ switchKept o x b values links) kind on refl)
-      where
-        on : (o : Op) → kind ≡ kindOf o → not (innermostIs 3 3 b && leb (b .held) (innermostStart b)) ≡ switchKept o x b values links
-        on ELSE e = refl
-        on ENDIF e = refl
-        on BGNLOOP e = refl
-        on ENDLOOP e = refl
-        on BRK e = refl
-        on CONT e = refl
-        on DEFAULT e = absurd (n87 e)
-        on ENDSWITCH e = absurd (n88 e)
-        on END e = refl
-        on UIF e = refl
-        on SWITCH e = refl
-        on CASE e = absurd (n92 e)
-        on PLAIN e = refl
-
--- ---- A search
-
-module _ (values links : List ℕ) (from end x : ℕ) where
-  pub search-root : from ≡ end → Root ≡ placeIn values links from end x
-  search-root e = rw (eq-eqb from end e)
-
-  pub search-first : (from ≡ end → ⊥) → placeIn values links from end x ≡ ending values links x (33 - 0) from 0
-  search-first n = rw (ne-eqb from end n)
-
-  -- The search has come to a node: the rest of it is the whole.
-  module _ (node depth word : ℕ) (at : word ≡ getD values node 0) (left : placeIn values links from end x ≡ ending values links x (33 - depth) node depth) (few : depth < 33) where
-    one-more : 33 - depth ≡ suc (33 - (depth + 1))
-    one-more = omega arith
-
-    pub search-here : x ≡ word → Here ≡ placeIn values links from end x
-    unfolding ending
-    search-here e = sym (left ∙ rw (one-more, eq-eqb _ _ (e ∙ at)))
-
-    module _ (other : x ≡ word → ⊥) (slot next : ℕ) (here : slot ≡ slotOf node depth x) (link : next ≡ getD links slot 0) where
-      differs : eqb x (getD values node 0) ≡ false
-      differs = ne-eqb x (getD values node 0) (λ e. other (e ∙ sym at))
-
-      link-is : getD links (slotOf node depth x) 0 ≡ next
-      link-is = sym (rw here at link)
-
-      pub search-missing : next ≡ 0 → Missing slot ≡ placeIn values links from end x
-      unfolding ending
-      search-missing z = sym (left ∙ rw (one-more, differs, link-is, eq-eqb next 0 z, here))
-
-      pub search-next : (next ≡ 0 → ⊥) → placeIn values links from end x ≡ ending values links x (33 - (depth + 1)) next (depth + 1)
-      unfolding ending
-      search-next z = left ∙ rw (one-more, differs, link-is, ne-eqb next 0 z)
-
-  pub search-out : (node depth : ℕ) → placeIn values links from end x ≡ ending values links x (33 - depth) node depth → 33 ≤ depth → Here ≡ placeIn values links from end x
-  unfolding ending
-  search-out node depth left h = let z : 33 - depth ≡ 0 = omega arith in sym (left ∙ rw z)
-
--- What the variant says.
-module _ (p q : Place) (is : p ≡ q) where
-  pub says-here : p ≡ Here → true ≡ isHere q
-  says-here e = rw (← is, e)
-
-  pub says-root : p ≡ Root → false ≡ isHere q
-  says-root e = rw (← is, e)
-
-  pub says-missing : (slot : ℕ) → p ≡ Missing slot → false ≡ isHere q
-  says-missing slot e = rw (← is, e)
-
--- ---- A node is hung
-
-module _ (links one two : List ℕ) (p : Place) (n : ℕ) (first : one ≡ set links (2 * n) 0) (second : two ≡ set one (2 * n + 1) 0) where
-  pub hung-here : p ≡ Here → two ≡ hung links p n
-  hung-here e = rw (e, second, first)
-
-  pub hung-root : p ≡ Root → two ≡ hung links p n
-  hung-root e = rw (e, second, first)
-
-  pub hung-missing : (slot : ℕ) (l : List ℕ) → p ≡ Missing slot → l ≡ set two slot n → l ≡ hung links p n
-  hung-missing slot l e q = rw (e, q, second, first)
-
--- ---- What is left
+use Rattle.tree.specs.Search.{placeIn, hung}
+use Rattle.tree.specs.declared.Place.{Place}
+use Rattle.stack.specs.Arrays.{innermostStart}
+use Rattle.stack.specs.declared.Blocks.{Blocks}
+use Rattle.rules.specs.Kept.{nestingKept, switchKept, nestingRefusal}
+use Rattle.nesting.specs.Left.{Left, leaving, more, labelled, leftAfter, nestOf}
 
 module _ (x : ℕ) (b : Blocks) (values links : List ℕ) where
   pub labelled-full : 1024 ≤ b .held → leaving 0 b values links ≡ labelled x b values links
@@ -256,26 +57,6 @@ after-others kind x β values links a b c d e f g h i = by-kind (λ o. leaving 0
 
 pub room-for : (k : ℕ) → opens (opOf k) ≡ true → (kind depth : ℕ) → (opens (opOf kind) ≡ true → depth < 16) → kind ≡ k → depth < 16
 room-for k o kind depth f e = f (rw e o)
-
--- The tests come in the order of the numbers.
-module _ (b : Blocks) (values links : List ℕ) (kind x : ℕ) (r : Bool) (kept : r ≡ nestingKept (opOf kind) b) where
-  pub refusal-10 : not r ≡ true → 10 ≡ nestingRefusal b values links kind x
-  unfolding nestingRefusal
-  refusal-10 e = rw (← kept, e)
-
-  module _ (fine : not r ≡ false) (s : Bool) (same : s ≡ switchKept (opOf kind) x b values links) where
-    pub refusal-11 : not s ≡ true → 11 ≡ nestingRefusal b values links kind x
-    unfolding nestingRefusal
-    refusal-11 e = rw (← kept, fine, ← same, e)
-
-    module _ (right : not s ≡ false) (o : Bool) (opening : o ≡ opens (opOf kind)) where
-      pub refusal-12 : (o && leb 16 (b .depth)) ≡ true → 12 ≡ nestingRefusal b values links kind x
-      unfolding nestingRefusal
-      refusal-12 e = rw (← kept, fine, ← same, right, ← opening, e)
-
-      pub refusal-none : (o && leb 16 (b .depth)) ≡ false → 0 ≡ nestingRefusal b values links kind x
-      unfolding nestingRefusal
-      refusal-none e = rw (← kept, fine, ← same, right, ← opening, e)
 
 module _ (b : Blocks) (values links : List ℕ) (kind x n : ℕ) (number : n ≡ nestingRefusal b values links kind x) where
   pub nest-refused : (n ≡ 0 → ⊥) → leaving n b values links ≡ nestOf b values links kind x

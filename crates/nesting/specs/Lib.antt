@@ -1,3 +1,2 @@
-pub mod Search
-pub mod Arrays
+pub mod Left
 pub mod Inner

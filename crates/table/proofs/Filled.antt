@@ -18,9 +18,9 @@ use Rattle.blocks.specs.Table.{Row, row, nowhere, table, rowAt, rowWords, place
 use Rattle.blocks.proofs.Agree.{length-rows}
 use Rattle.blocks.proofs.Correct.{rows-count}
 use Rattle.table.specs.Prepared.{opFrom, tableWords, filled}
-use Rattle.table.specs.Inner.Lists.{opIn, listIn}
+use Rattle.lists.specs.Lists.{opIn, listIn}
 use Rattle.table.specs.Inner.Rows.{wordsIn, Located, Room}
-use Rattle.table.proofs.Laid.{list-fits}
+use Rattle.lists.proofs.Laid.{list-fits}
 use Rattle.table.proofs.Same.{table-same, words-same}
 use Rattle.table.proofs.Words.{length-words, words-place, words-row, getD-stored}
 

@@ -15,11 +15,11 @@ use Rattle.blocks.specs.Run.{mostInstructions}
 use Rattle.blocks.specs.declared.Targets.{Targets}
 use Rattle.blocks.specs.Table.{inUif, inLoop, inSwitch, jumpOf, firstLabel, rowOf, uifRow, loopRow, switchRow, rows, rowWords, wordsOf}
 use Rattle.blocks.proofs.Agree.{length-rows}
-use Rattle.table.specs.Inner.Lists.{blockOf, opIn, listIn, blockIn}
+use Rattle.lists.specs.Lists.{blockOf, opIn, listIn, blockIn}
 use Rattle.table.specs.Inner.Rows.{wordsIn, singleIn, Room, Near, Opening}
-use Rattle.table.proofs.Laid.{list-laid, laid-label}
-use Rattle.table.proofs.Readers.{list-within, past-end, at-last, at-plain, at-opening, at-loop, at-switch, at-uif}
-use Rattle.table.proofs.Tests.{uif-left, last-no-label}
+use Rattle.lists.proofs.Laid.{list-laid, laid-label}
+use Rattle.lists.proofs.Readers.{list-within, past-end, at-last, at-plain, at-opening, at-loop, at-switch, at-uif}
+use Rattle.lists.proofs.Tests.{uif-left, last-no-label}
 use Rattle.table.proofs.Words.{rows-then}
 
 pub chosen : (t v : Bool) (r x : ℕ) → t ≡ v → t ≡ true → r ≡ x → r ≡ cond v x 0

@@ -13,7 +13,7 @@ use Rattle.blocks.specs.Lists.{Items, nil, one, uif, loop, switch, size, item, 
 use Rattle.blocks.specs.declared.Targets.{Targets}
 use Rattle.blocks.specs.Table.{Row, inUif, inLoop, inSwitch, nowhere, firstLabel, rows, table, wordsOf}
 use Rattle.blocks.proofs.Bound.{item-cong, from-end}
-use Rattle.table.proofs.Laid.{Laid, list-laid}
+use Rattle.lists.proofs.Laid.{Laid, list-laid}
 
 cond-same : {A : Type 0} (t : Bool) (x : A) → cond t x x ≡ x
 cond-same true x = refl

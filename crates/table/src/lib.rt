@@ -1,8 +1,5 @@
 // The code that fills the prepared table. Two readers that call each other do it: `block` reads a list of instructions,
 // `opening` the block that one of them opens.
-use crate::lists::next_label;
-use crate::lists::past;
-use crate::lists::past_block;
 use blocks::MOST_INSTRUCTIONS;
 use blocks::ROW_WORDS;
 use blocks::Targets;
@@ -16,6 +13,9 @@ use blocks::control::is_label;
 use blocks::control::is_last;
 use blocks::control::is_opening;
 use format::records::LONGEST;
+use lists::next_label;
+use lists::past;
+use lists::past_block;
 use readers::byte_at;
 use records::size_at;
 ghost use mathlib.Core.Path.{_≡_};
@@ -30,10 +30,8 @@ ghost use Rattle.blocks.specs.Lists.{size};
 ghost use Rattle.blocks.specs.Run.{mostInstructions};
 ghost use Rattle.blocks.specs.Table.{jumpOf, firstLabel, rowWords};
 ghost use Rattle.table.specs.Prepared.{filled};
-ghost use Rattle.table.specs.Inner.Lists.{opIn, listIn, blockIn};
+ghost use Rattle.lists.specs.Lists.{opIn, listIn, blockIn};
 ghost use Rattle.table.specs.Inner.Rows.{wordsIn, singleIn, Located, Room, Near, Opening};
-
-mod lists;
 
 // The targets in the list of a loop or a SWITCH, of which no ELSE is the last instruction.
 fn body_targets(brk: usize, cont: usize) -> Targets

@@ -2,7 +2,8 @@
 use borrow.Author.Needs.{needs}
 use mathlib.Core.Path.{refl}
 use Rattle.blocks.specs.Control.{opOf}
-use Rattle.nesting.specs.Arrays.{pushed, popped, recoded, leftAfter}
+use Rattle.stack.specs.Arrays.{popped, recoded}
+use Rattle.nesting.specs.Left.{pushed, leftAfter}
 use Rattle.nesting.proofs.Steps.{room-for, after-by, after-case, after-others}
 use Rattle.nesting.proofs.open_after.Statement.{statement}
 use Rattle.nesting.proofs.open_after.Tie as tie

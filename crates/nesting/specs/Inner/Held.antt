@@ -1,4 +1,4 @@
--- What the words of open blocks stand for, and what the steps of specs/Arrays keep of them.
+-- What the words of open blocks stand for, and what the steps of specs/Left keep of them.
 -- Assumes nothing.
 use Prim.Native.Nat.{ℕ, zero, suc, _+_, _-_, _<_, _≤_}
 use mathlib.Core.Path.{_≡_}
@@ -7,9 +7,9 @@ use mathlib.Core.Bool.{cond}
 use lib.Dec.{eqb}
 use lib.ListN.{length, getD}
 use Rattle.blocks.specs.Nesting.{Open, openUif, openElse, openLoop, openSwitch, Ruling, goes, refused, mostOpen}
-use Rattle.nesting.specs.Arrays.{innermostStart}
-use Rattle.nesting.specs.Inner.Tree.{Tree}
-use Rattle.nesting.specs.declared.Blocks.{Blocks}
+use Rattle.stack.specs.Arrays.{innermostStart}
+use Rattle.tree.specs.Inner.Tree.{Tree}
+use Rattle.stack.specs.declared.Blocks.{Blocks}
 use Rattle.nesting.specs.declared.Nested.{Nested}
 
 -- The block of a code, with the words of its CASEs.
@@ -42,7 +42,7 @@ topValues b values = newestFirst values (innermostStart b) (b .held - innermostS
 abbrev pub rulingOf : Nested → List ℕ → Ruling
 rulingOf n values = cond (eqb (n .refusal) 0) (goes (blocksOf (n .blocks) values)) (refused (n .refusal))
 
--- The codes are those of specs/Arrays, and each block starts where or after the one around it does.
+-- The codes are those of `stack`'s specs/Arrays, and each block starts where or after the one around it does.
 abbrev pub Stacked : List ℕ → List ℕ → ℕ → ℕ → Type 0
 Stacked codes starts zero end = Unit {0}
 Stacked codes starts (suc n) end =

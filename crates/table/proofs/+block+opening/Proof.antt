@@ -11,9 +11,9 @@ use lib.Seq.{sets}
 use Rattle.blocks.specs.Table.{rowWords}
 use Rattle.blocks.proofs.control.is_last.Reads as is-last-reads
 use Rattle.blocks.proofs.control.is_opening.Reads as is-opening-reads
-use Rattle.table.specs.Inner.Lists.{listIn}
+use Rattle.lists.specs.Lists.{listIn}
 use Rattle.table.specs.Inner.Rows.{wordsIn, Room}
-use Rattle.table.proofs.Readers.{left-falls}
+use Rattle.lists.proofs.Readers.{left-falls}
 use Rattle.table.proofs.Rows.{opens-block, length-kept, room-kept, end-near, next-near, near-of, body-near, past-near, first-near, block-stop, block-last, block-plain, block-opening, open-loop, open-switch, open-if, open-else}
 use Rattle.table.proofs.block.Reads as block
 use Rattle.table.proofs.block.Kinds as block-kinds
@@ -21,9 +21,9 @@ use Rattle.table.proofs.+block+opening.Lts-block as block-lts
 use Rattle.table.proofs.opening.Reads as opening
 use Rattle.table.proofs.opening.Kinds as opening-kinds
 use Rattle.table.proofs.+block+opening.Lts-opening as opening-lts
-use Rattle.table.proofs.lists.next_label.Reads as next-label-reads
-use Rattle.table.proofs.lists.past.Reads as past-reads
-use Rattle.table.proofs.lists.past_block.Reads as past-block-reads
+use Rattle.lists.proofs.next_label.Reads as next-label-reads
+use Rattle.lists.proofs.past.Reads as past-reads
+use Rattle.lists.proofs.past_block.Reads as past-block-reads
 use Rattle.table.proofs.body_targets.Reads as body-targets-reads
 use Rattle.table.proofs.put_row.Reads as put-row-reads
 use Rattle.table.proofs.single.Reads as single-reads

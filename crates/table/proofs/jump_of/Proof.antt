@@ -2,7 +2,7 @@
 -- Assumes nothing.
 use borrow.Author.Needs.{needs}
 use Rattle.blocks.specs.Control.{opOf}
-use Rattle.table.proofs.Tests.{jump-at, no-jump}
+use Rattle.table.proofs.Jumps.{jump-at, no-jump}
 use Rattle.table.proofs.jump_of.Statement.{statement}
 use Rattle.table.proofs.jump_of.Tie as tie
 

@@ -12,7 +12,7 @@ use Rattle.blocks.specs.Run.{mostInstructions}
 use Rattle.blocks.specs.declared.Targets.{Targets}
 use Rattle.blocks.specs.Table.{rowOf, rowWords, rows, wordsOf}
 use Rattle.table.specs.Prepared.{kindFrom}
-use Rattle.table.specs.Inner.Lists.{opIn, listIn}
+use Rattle.lists.specs.Lists.{opIn, listIn}
 
 module _ (kinds places : List ℕ) where
   -- The words of a list's rows from instruction n on.
