@@ -2,10 +2,10 @@
 -- Assumes nothing.
 use borrow.Author.Needs.{needs}
 use Rattle.runner.specs.Answers.{runAnswer}
-use Rattle.capi.specs.Answers.{answerOf}
-use Rattle.capi.proofs.HandedOn.{in-arm}
-use Rattle.capi.proofs.ran.Statement.{statement}
-use Rattle.capi.proofs.ran.Tie as tie
+use Rattle.answers.specs.Words.{answerOf}
+use Rattle.answers.proofs.Arms.{in-arm}
+use Rattle.answers.proofs.ran.Statement.{statement}
+use Rattle.answers.proofs.ran.Tie as tie
 
 pub ran-spec : {M : Type 1} → statement M
 ran-spec =

@@ -2,10 +2,10 @@
 -- Assumes nothing.
 use borrow.Author.Needs.{needs}
 use Rattle.checker.specs.Check.{told}
-use Rattle.capi.specs.Answers.{toldWords}
-use Rattle.capi.proofs.HandedOn.{in-arm}
-use Rattle.capi.proofs.checked.Statement.{statement}
-use Rattle.capi.proofs.checked.Tie as tie
+use Rattle.answers.specs.Words.{toldWords}
+use Rattle.answers.proofs.Arms.{in-arm}
+use Rattle.answers.proofs.checked.Statement.{statement}
+use Rattle.answers.proofs.checked.Tie as tie
 
 pub checked-spec : {M : Type 1} → statement M
 checked-spec =

@@ -8,8 +8,8 @@ use Rattle.format.specs.declared.records.Bounds.{Bounds}
 use Rattle.checker.specs.Check.{Told, follows, breaks}
 use Rattle.runner.specs.Answers.{said, end, halt, unanswered, Lent, Result, Preparation}
 use Rattle.runner.specs.Answers.{Answer as Library}
-use Rattle.capi.specs.declared.Answer.{Answer}
-use Rattle.capi.specs.declared.Part.{Part}
+use Rattle.answers.specs.declared.Answer.{Answer}
+use Rattle.answers.specs.declared.Part.{Part}
 
 abbrev pub words : ℕ → ℕ → ℕ → Answer
 words status first second = record { status = status; first = first; second = second }

@@ -2,10 +2,10 @@
 -- Assumes nothing.
 use borrow.Author.Needs.{needs}
 use Rattle.runner.specs.Answers.{prepareAnswer}
-use Rattle.capi.specs.Answers.{toldWords}
-use Rattle.capi.proofs.HandedOn.{in-arm}
-use Rattle.capi.proofs.prepared.Statement.{statement}
-use Rattle.capi.proofs.prepared.Tie as tie
+use Rattle.answers.specs.Words.{toldWords}
+use Rattle.answers.proofs.Arms.{in-arm}
+use Rattle.answers.proofs.prepared.Statement.{statement}
+use Rattle.answers.proofs.prepared.Tie as tie
 
 pub prepared-spec : {M : Type 1} → statement M
 prepared-spec =
