@@ -1,9 +1,9 @@
 -- The lesser of the two.
 -- Assumes nothing.
 use borrow.Author.Needs.{needs}
-use Rattle.execution.proofs.Copies.{all-registers, fewer-registers}
-use Rattle.execution.proofs.lent.register_words.Statement.{statement}
-use Rattle.execution.proofs.lent.register_words.Tie as tie
+use Rattle.lending.proofs.Copies.{all-registers, fewer-registers}
+use Rattle.lending.proofs.register_words.Statement.{statement}
+use Rattle.lending.proofs.register_words.Tie as tie
 
 pub register-words-spec : {M : Type 1} → statement M
 register-words-spec =

@@ -16,8 +16,8 @@ use Rattle.registers.specs.declared.sets.Declared.{Declared}
 use Rattle.registers.specs.Sets.{isIn}
 use Rattle.sources.specs.Bank.{envIn, declaredIn}
 use Rattle.sources.specs.Operands.{envWith, wordIn}
-use Rattle.execution.specs.Steps.{askedIndirectly, bankEnv}
-use Rattle.execution.proofs.Copies.{copy-end}
+use Rattle.lending.specs.Lent.{askedIndirectly, bankEnv}
+use Rattle.lending.proofs.Copies.{copy-end}
 
 module _ (a b : List ℕ) (la : length a ≡ 32) (lb : length b ≡ 8) (i : ℕ) where
   -- The first list has the bits below 1,024, the second those from there on.

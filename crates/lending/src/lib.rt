@@ -1,4 +1,4 @@
-// What is lent to a run: the registers cleared, and what is read and never written gathered in one bank.
+// What is lent to a run, before its first step: the registers cleared, and what is read and never written gathered in one bank.
 use format::files::REGISTER_WORDS;
 use registers::sets::Declared;
 use sources::bank::Bank;
@@ -10,7 +10,7 @@ ghost use lib.ListN.{getD};
 ghost use Rattle.format.specs.Files.{lentRegisters};
 ghost use Rattle.registers.specs.Sets.{isIn};
 ghost use Rattle.sources.specs.Bank.{envIn, declaredIn};
-ghost use Rattle.execution.specs.Steps.{askedIndirectly, bankEnv, zeroed};
+ghost use Rattle.lending.specs.Lent.{askedIndirectly, bankEnv, zeroed};
 
 // How many of so many lent words are words of registers.
 fn register_words(lent: usize) -> usize

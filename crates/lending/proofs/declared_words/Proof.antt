@@ -6,10 +6,10 @@ use Prim.Native.Nat.{_-_, _≤_}
 use native.Mathlib.Omega.{arith}
 use borrow.Author.Needs.{needs}
 use lib.ListN.{length, take, length-append}
-use Rattle.execution.proofs.Copies.{copy-more}
-use Rattle.execution.proofs.Indirect.{copied-is}
-use Rattle.execution.proofs.lent.declared_words.Statement.{statement}
-use Rattle.execution.proofs.lent.declared_words.Tie as tie
+use Rattle.lending.proofs.Copies.{copy-more}
+use Rattle.lending.proofs.Indirect.{copied-is}
+use Rattle.lending.proofs.declared_words.Statement.{statement}
+use Rattle.lending.proofs.declared_words.Tie as tie
 
 abbrev Inv-loop : tie.InvT-loop
 Inv-loop declared words₀ i₀ words i =

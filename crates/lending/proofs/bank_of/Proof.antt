@@ -1,9 +1,9 @@
 -- The bank of the declared words, which say what is declared.
 -- Assumes nothing.
 use borrow.Author.Needs.{needs}
-use Rattle.execution.proofs.Indirect.{bank-is}
-use Rattle.execution.proofs.lent.bank_of.Statement.{statement}
-use Rattle.execution.proofs.lent.bank_of.Tie as tie
+use Rattle.lending.proofs.Indirect.{bank-is}
+use Rattle.lending.proofs.bank_of.Statement.{statement}
+use Rattle.lending.proofs.bank_of.Tie as tie
 
 pub bank-of-spec : {M : Type 1} → statement M
 bank-of-spec =

@@ -5,9 +5,9 @@ use mathlib.Core.List.{_++_}
 use Prim.Native.Nat.{_-_, _≤_}
 use borrow.Author.Needs.{needs}
 use lib.ListN.{length, drop, replicate}
-use Rattle.execution.proofs.Copies.{registers-fit, clear-more, clear-end}
-use Rattle.execution.proofs.lent.clear.Statement.{statement}
-use Rattle.execution.proofs.lent.clear.Tie as tie
+use Rattle.lending.proofs.Copies.{registers-fit, clear-more, clear-end}
+use Rattle.lending.proofs.clear.Statement.{statement}
+use Rattle.lending.proofs.clear.Tie as tie
 
 abbrev Inv-loop : tie.InvT-loop
 Inv-loop registers₀ end i₀ registers i =

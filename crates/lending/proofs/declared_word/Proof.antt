@@ -3,9 +3,9 @@
 use mathlib.Core.Path.{_≡_}
 use lib.ListN.{length}
 use borrow.Author.Needs.{needs}
-use Rattle.execution.proofs.Copies.{word-of-first, word-of-second}
-use Rattle.execution.proofs.lent.declared_word.Statement.{statement}
-use Rattle.execution.proofs.lent.declared_word.Tie as tie
+use Rattle.lending.proofs.Copies.{word-of-first, word-of-second}
+use Rattle.lending.proofs.declared_word.Statement.{statement}
+use Rattle.lending.proofs.declared_word.Tie as tie
 
 pub declared-word-spec : {M : Type 1} → statement M
 declared-word-spec =

@@ -10,11 +10,10 @@ use native.Mathlib.Numerals.{add-one}
 use borrow.Author.Fill.{fill-more}
 use borrow.Author.Tests.{ltb-true, ltb-false}
 use lib.Dec.{ltb}
-use lib.ListN.{length, getD, set, take, drop, replicate, length-take, drop-of-length-le, List·getD-append}
-use lib.Seq.{take-all, take-suc, take-suc-set, getD-append-add}
+use lib.ListN.{length, getD, set, take, drop, replicate, length-replicate, length-take, drop-of-length-le, List·getD-append}
+use lib.Seq.{drop-at, take-all, take-suc, take-suc-set, getD-append-add}
 use Rattle.format.specs.Files.{lentRegisters}
-use Rattle.execution.specs.Program.{cleared}
-use Rattle.execution.specs.Steps.{zeroed}
+use Rattle.lending.specs.Lent.{cleared, zeroed}
 
 -- ---- Clearing
 
@@ -58,6 +57,11 @@ pub zeroed-is : (registers : List ℕ) → lentRegisters ≤ length registers �
 unfolding zeroed cleared
 zeroed-is registers h =
     ap (λ (n : ℕ). replicate n 0 ++ drop lentRegisters registers) (length-take lentRegisters registers ∙ min-eq-left h)
+
+-- "clears these and no word past them" (01, Register files)
+pub cleared-past : (registers : List ℕ) → drop lentRegisters (cleared registers) ≡ drop lentRegisters registers
+unfolding cleared
+cleared-past registers = drop-at (replicate lentRegisters 0) (drop lentRegisters registers) lentRegisters (length-replicate {A = ℕ} lentRegisters 0)
 
 -- ---- One list behind the other
 
