@@ -1,25 +1,20 @@
--- An answer in words follows the library's answer, through whatever the callee and the `match` say of it.
+-- An answer in words follows the library's answer, through what the callees say of it.
 -- Assumes nothing.
 use Prim.Native.Nat.{ℕ, _≤_}
 use mathlib.Core.Path.{_≡_, sym, ap, subst}
 use mathlib.Core.List.{List}
 use native.Mathlib.Omega.{arith}
 use Rattle.checker.specs.Check.{Told, follows, breaks}
-use Rattle.format.specs.declared.records.Bounds.{Bounds}
 use Rattle.runner.specs.Answers.{said, end, halt, unanswered, Lent, Result, Preparation, after, prepareAfter}
 use Rattle.runner.specs.Answers.{Answer as Library}
 use Rattle.runner.specs.Whole.{runOf}
 use Rattle.runner.proofs.Laws.{Answered, run-answers}
-use Rattle.capi.specs.declared.Answer.{Answer}
-use Rattle.capi.specs.Answers.{toldWords, answerOf, stepsIn, afterPreparing, preparationInWords, afterRun, resultInWords, partOf}
-
--- In an arm of a `match`: what is matched is the arm's case.
-pub in-arm : {E : Type 0} (inWords : E → Answer) (o arm : E) (r : Answer) → o ≡ arm → r ≡ inWords arm → r ≡ inWords o
-in-arm inWords o arm r e h = rw e h
+use Rattle.answers.specs.declared.Answer.{Answer}
+use Rattle.answers.specs.Words.{toldWords, answerOf, stepsIn, afterPreparing, preparationInWords, afterRun, resultInWords}
 
 -- After a call: what the callee answered is what its definition says.
 pub by-callee :
-    {E : Type 0} (inWords : E → Answer) (told meant : E) (r : Answer) → told ≡ meant → r ≡ inWords told → r ≡ inWords meant
+    {E W : Type 0} (inWords : E → W) (told meant : E) (r : W) → told ≡ meant → r ≡ inWords told → r ≡ inWords meant
 by-callee inWords told meant r e h = rw (← e) h
 
 pub prepared-is :
@@ -51,6 +46,3 @@ module _ (file inputs constants : List ℕ) (over left : Lent) (budget : ℕ) (a
     -- "never above budget" (01, Forms for specific places)
     pub ran-within : stepsIn r ≤ budget
     ran-within = rw h (both .1)
-
-pub part-is : (b x : Bounds) → b ≡ x → partOf b ≡ partOf x
-part-is b x e = ap partOf e

@@ -26,8 +26,8 @@ use Rattle.effects.specs.Destinations.{components, zeros}
 use Rattle.sources.specs.Operands.{Env, wordIn, envWith, fourFrom, registerWords, ifDeclared, registerOf, taken, takenAt, sourceOf, kindByte, nthSource, sourcesOf}
 use Rattle.sources.specs.declared.operands.Place.{Place}
 use Rattle.sources.specs.declared.operands.Place.the-variants.{Register, Nowhere}
+use Rattle.lending.specs.Lent.{askedIndirectly, bankEnv}
 use Rattle.execution.specs.Program.{placeOf, envOf}
-use Rattle.execution.specs.Steps.{askedIndirectly, bankEnv}
 
 -- ---- Words
 

@@ -30,8 +30,9 @@ use Rattle.effects.specs.Effect.{effectOf, familyOf, xOf}
 use Rattle.sources.specs.Bank.{envIn}
 use Rattle.sources.specs.Operands.{Env, kindByte}
 use Rattle.machine.specs.Step.{machineOf, recordEffect}
+use Rattle.lending.specs.Lent.{bankEnv}
 use Rattle.execution.specs.Program.{placeOf, envOf, programOf, carriedOut}
-use Rattle.execution.specs.Steps.{bankEnv, machineBy, byRows}
+use Rattle.execution.specs.Steps.{machineBy, byRows}
 use Rattle.execution.specs.Inner.Right.{Right}
 use Rattle.execution.proofs.Alike.{banked-alike}
 

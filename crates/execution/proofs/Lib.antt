@@ -1,6 +1,4 @@
 pub mod Loop
-pub mod Copies
-pub mod Indirect
 pub mod Rows
 pub mod Alike
 pub mod Demand

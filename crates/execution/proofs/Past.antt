@@ -8,8 +8,8 @@ use Prim.Native.Nat.{ℕ, _+_, _-_, _*_, _<_, _≤_}
 use native.Mathlib.Omega.{arith}
 use borrow.Author.Tests.{eqb-true, eqb-false, leb-true}
 use lib.Dec.{T, eqb, eqb→eq, leb}
-use lib.ListN.{length, getD, drop, replicate, length-replicate}
-use lib.Seq.{drop-at, drop-set-lt, getD-drop}
+use lib.ListN.{length, getD, drop}
+use lib.Seq.{drop-set-lt, getD-drop}
 use Rattle.words.specs.Word.{bit}
 use Rattle.format.specs.Fields.{word16, destinationAt}
 use Rattle.format.specs.Files.{OUT, TEMP, tempFrom, addrFrom, lentRegisters, registersOf}
@@ -29,7 +29,7 @@ use Rattle.effects.specs.Memory.{loaded, loadedFrom}
 use Rattle.effects.specs.Sources.{resultWords}
 use Rattle.sources.specs.Operands.{kindByte, sourcesOf}
 use Rattle.machine.specs.Step.{recordEffect}
-use Rattle.execution.specs.Program.{placeOf, envOf, programOf, cleared, carriedOut}
+use Rattle.execution.specs.Program.{placeOf, envOf, programOf, carriedOut}
 use Rattle.execution.proofs.Alike.{kind-from}
 
 -- ---- A result that is written
@@ -158,8 +158,3 @@ module _ (file : List ℕ) (s : Seen) (ok : checkOf file ≡ accepted s) (inputs
   reading-past budget from =
       reading-stays (s .instructions) (λ (t : State). drop lentRegisters (t .registers) ≡ drop lentRegisters (from .registers)) (programOf s file inputs constants) budget
       (λ n t h same. effect-keeps n h t (drop lentRegisters (from .registers)) same) (opFrom file (s .start)) from refl
-
--- "clears these and no word past them" (01, Register files)
-pub cleared-past : (registers : List ℕ) → drop lentRegisters (cleared registers) ≡ drop lentRegisters registers
-unfolding cleared
-cleared-past registers = drop-at (replicate lentRegisters 0) (drop lentRegisters registers) lentRegisters (length-replicate {A = ℕ} lentRegisters 0)

@@ -1,9 +1,7 @@
 -- A program that the check took: its nested lists, what its instructions do, and what carrying it out comes to (demand 3).
 -- Assumes nothing.
 use Prim.Native.Nat.{ℕ}
-use mathlib.Core.List.{List, _++_}
-use lib.ListN.{drop, replicate}
-use Rattle.format.specs.Files.{lentRegisters}
+use mathlib.Core.List.{List}
 use Rattle.format.specs.Records.{placeFrom}
 use Rattle.blocks.specs.Control.{Machine}
 use Rattle.blocks.specs.Lists.{Items, nestedLists}
@@ -27,10 +25,6 @@ envOf s inputs constants = envWith (s .declared) (s .immediates) inputs constant
 
 abbrev pub programOf : Seen → List ℕ → List ℕ → List ℕ → Machine State
 programOf s file inputs constants = machineOf (envOf s inputs constants) file (placeOf s file)
-
--- "A run checks, prepares, clears these and no word past them, then carries out." (01, Register files)
-unfoldable pub cleared : List ℕ → List ℕ
-cleared registers = replicate lentRegisters 0 ++ drop lentRegisters registers
 
 -- The block reading from a state. "It is given the file, inputs, constants, memory and budget, and nothing of the table."
 unfoldable pub carriedOut : Seen → List ℕ → List ℕ → List ℕ → ℕ → State → Reading State

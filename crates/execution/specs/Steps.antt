@@ -1,40 +1,18 @@
 -- Carrying out by the rows of a table that stand in lent words, over the bank: what the functions of this crate leave.
 -- Assumes nothing.
 use Prim.Native.Nat.{ℕ, zero, suc}
-use mathlib.Core.Bool.{Bool, cond, _&&_, _||_}
-use mathlib.Core.List.{List, _++_}
-use lib.Dec.{eqb, ltb}
-use lib.ListN.{length, take, drop, replicate}
-use Rattle.format.specs.Files.{CONST, TEMP, lentRegisters}
+use mathlib.Core.Bool.{cond}
+use mathlib.Core.List.{List}
+use lib.Dec.{ltb}
 use Rattle.blocks.specs.Control.{Machine}
 use Rattle.blocks.specs.Reading.{Reading, ended, halted}
 use Rattle.blocks.specs.Run.{mostInstructions, follow, step}
 use Rattle.blocks.specs.Table.{rowIn, placeIn}
 use Rattle.effects.specs.Destinations.{State}
-use Rattle.sources.specs.Operands.{Env, envWith}
+use Rattle.sources.specs.Operands.{Env}
 use Rattle.machine.specs.Step.{machineOf}
 use Rattle.execution.specs.declared.Report.{Report}
 use Rattle.execution.specs.declared.Stop.{Stop}
-
--- ---- What is read
-
--- "Indirect only for CONST and TEMP" (01, Register files): of these two files alone an operand asks what is declared.
-abbrev pub askedIndirectly : (ℕ → ℕ → Bool) → ℕ → ℕ → Bool
-askedIndirectly declared f i = (eqb f CONST || eqb f TEMP) && declared f i
-
--- "1 CONST 0-1023, 2 IN 0-31" (01, Register files): the bank has no more words than these registers have. No accepted program can
--- tell it from `envOf` (the law `banked-alike`).
-abbrev pub bankEnv : (ℕ → ℕ → Bool) → List ℕ → List ℕ → List ℕ → Env
-bankEnv declared immediates inputs constants = envWith (askedIndirectly declared) immediates (take 128 inputs) (take 4096 constants)
-
--- ---- What is cleared
-
--- Of lent words the registers' are set to 0, as many as there are. A run has them all, by refusal 22, and that is `cleared` (the law
--- `zeroed-is`).
-unfoldable pub zeroed : List ℕ → List ℕ
-zeroed registers = replicate (length (take lentRegisters registers)) 0 ++ drop lentRegisters registers
-
--- ---- The run by rows
 
 -- A report of so many steps.
 abbrev pub report : ℕ → Report

@@ -1,6 +1,5 @@
 // Carrying out a program that the check took, by the rows of its table, over what is lent.
 
-pub mod lent;
 pub mod steps;
 
 // What is told of the instructions that were carried out.

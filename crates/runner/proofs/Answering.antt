@@ -25,14 +25,15 @@ use Rattle.effects.specs.Effect.{state}
 use Rattle.sources.specs.Bank.{envIn}
 use Rattle.admission.specs.Admission.{admissionOf}
 use Rattle.admission.proofs.Admitting.{Admitted, admitted-is, lent-enough}
+use Rattle.lending.specs.Lent.{bankEnv, cleared, zeroed}
+use Rattle.lending.proofs.Copies.{zeroed-is}
+use Rattle.lending.proofs.Indirect.{padded-words}
 use Rattle.execution.specs.declared.Report.{Report}
 use Rattle.execution.specs.declared.Stop.{Stop}
-use Rattle.execution.specs.Program.{cleared, carriedOut}
-use Rattle.execution.specs.Steps.{bankEnv, zeroed, reached, byRows}
+use Rattle.execution.specs.Program.{carriedOut}
+use Rattle.execution.specs.Steps.{reached, byRows}
 use Rattle.execution.specs.Inner.Right.{Right}
-use Rattle.execution.proofs.Copies.{zeroed-is}
 use Rattle.execution.proofs.Demand.{came-read, halts-inside}
-use Rattle.execution.proofs.Indirect.{padded-words}
 use Rattle.execution.proofs.Rows.{prepared-right}
 use Rattle.runner.specs.declared.Outcome.{Outcome}
 use Rattle.runner.specs.Answers.{Answer, said, runAnswer, stepsOf, Lent, lent, after, prepareAfter}

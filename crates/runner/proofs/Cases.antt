@@ -24,7 +24,8 @@ use Rattle.effects.specs.Effect.{familyOf}
 use Rattle.sources.specs.Operands.{registerWords, registerOf, taken, sourceOf, nthSource, sourcesOf}
 use Rattle.machine.specs.Step.{recordEffect}
 use Rattle.admission.specs.Admission.{lentRefusal, admissionOf}
-use Rattle.execution.specs.Program.{cleared, carriedOut}
+use Rattle.lending.specs.Lent.{cleared}
+use Rattle.execution.specs.Program.{carriedOut}
 use Rattle.runner.specs.Answers.{Answer, said, end, halt, unanswered, lent, Result}
 use Rattle.runner.specs.Whole.{runAdmitted, runOf}
 

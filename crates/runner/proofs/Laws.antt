@@ -18,9 +18,11 @@ use Rattle.effects.specs.Destinations.{State}
 use Rattle.effects.specs.Effect.{state}
 use Rattle.admission.specs.Admission.{admissionOf}
 use Rattle.admission.proofs.Admitting.{admitted-is}
-use Rattle.execution.specs.Program.{cleared, carriedOut}
+use Rattle.lending.specs.Lent.{cleared}
+use Rattle.lending.proofs.Copies.{cleared-past}
+use Rattle.execution.specs.Program.{carriedOut}
 use Rattle.execution.proofs.Demand.{reading-final, reading-inside}
-use Rattle.execution.proofs.Past.{reading-past, cleared-past}
+use Rattle.execution.proofs.Past.{reading-past}
 use Rattle.runner.specs.Answers.{Answer, said, end, halt, unanswered, stepsOf, Lent}
 use Rattle.runner.specs.Whole.{preparedIn, sizesOf, reported, runAdmitted, runOf}
 

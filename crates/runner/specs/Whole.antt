@@ -14,7 +14,8 @@ use Rattle.effects.specs.Destinations.{State}
 use Rattle.effects.specs.Effect.{state}
 use Rattle.admission.specs.declared.Sizes.{Sizes}
 use Rattle.admission.specs.Admission.{workShort, admissionOf}
-use Rattle.execution.specs.Program.{cleared, carriedOut}
+use Rattle.lending.specs.Lent.{cleared}
+use Rattle.execution.specs.Program.{carriedOut}
 use Rattle.execution.specs.Steps.{report}
 use Rattle.runner.specs.Answers.{said, end, halt, unanswered, Lent, lent, Result, after, Preparation, prepareAfter}
 

@@ -1,7 +1,7 @@
 -- The verdict is what the definition says, in words.
 -- Assumes nothing.
 use borrow.Author.Needs.{needs}
-use Rattle.capi.specs.Answers.{toldWords}
+use Rattle.answers.specs.Words.{toldWords}
 use Rattle.capi.proofs.HandedOn.{by-callee}
 use Rattle.capi.proofs.ropebonnet_check.Statement.{statement}
 use Rattle.capi.proofs.ropebonnet_check.Tie as tie

@@ -1,7 +1,8 @@
 -- The part is that of the bounds.
 -- Assumes nothing.
 use borrow.Author.Needs.{needs}
-use Rattle.capi.proofs.HandedOn.{part-is}
+use Rattle.answers.specs.Words.{partOf}
+use Rattle.capi.proofs.HandedOn.{by-callee}
 use Rattle.capi.proofs.ropebonnet_record.Statement.{statement}
 use Rattle.capi.proofs.ropebonnet_record.Tie as tie
 
@@ -10,4 +11,5 @@ ropebonnet-record-spec =
     tie.close
     (tie.spec
     (search needs)
-    (λ c. search (needs, part-is)))
+    (search needs)
+    (λ c. search (needs, by-callee partOf)))

@@ -11,8 +11,9 @@ use Rattle.effects.specs.Effect.{state}
 use Rattle.sources.specs.Bank.{envIn}
 use Rattle.sources.specs.Operands.{wordIn}
 use Rattle.admission.specs.Admission.{admissionOf}
+use Rattle.lending.specs.Lent.{zeroed}
 use Rattle.execution.specs.declared.Stop.{Stop}
-use Rattle.execution.specs.Steps.{zeroed, reached, byRows}
+use Rattle.execution.specs.Steps.{reached, byRows}
 use Rattle.runner.specs.Answers.{Answer, end, halt, Lent}
 use Rattle.runner.specs.Whole.{sizesOf}
 

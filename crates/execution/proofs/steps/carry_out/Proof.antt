@@ -2,6 +2,7 @@
 -- Assumes nothing.
 use mathlib.Core.Path.{_≡_}
 use Prim.Native.Nat.{_-_, _≤_}
+use native.Mathlib.Omega.{arith}
 use borrow.Author.Needs.{needs}
 use lib.ListN.{length}
 use Rattle.effects.specs.Effect.{state}
@@ -28,9 +29,9 @@ carry-out-spec =
     (λ c. search (needs, none-yet))
     (search needs) (search needs)
     (λ c. search (needs, leads-out))
-    (search needs) (search needs) (search needs) (search needs) (search needs)
+    (omega arith) (search needs) (search needs) (omega arith) (omega arith)
     (λ c. search (needs, goes-on))
-    (search needs) (search needs) (search needs) (search needs)
+    (search needs) (omega arith) (search needs) (search needs)
     (λ c. search (needs, comes-to-end))
     (search needs) (search needs)
     (λ c. search (needs, is-spent)))
