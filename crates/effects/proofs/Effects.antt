@@ -1,10 +1,10 @@
 -- Effects: what is written is the result of the kind's family.
 -- Assumes nothing.
 use Rattle.effects.specs.Effect.{Family, WORDS, WIDE-UNARY, LOAD, WIDE, STORE, ATOMIC, ATOMCAS, NONE, effectOf, exchange, familyOf, result, state, xOf}
-use Rattle.effects.specs.Destinations.{State, components, firstWord, masked, placed}
+use Rattle.destinations.specs.Destinations.{State, components, firstWord, masked, placed}
 use Rattle.words.specs.Word.{cas}
 use Rattle.results.specs.Arithmetic.{atomic, wideOf, wideUnaryOf}
-use Rattle.effects.specs.Memory.{loaded, loadedFrom, stored, storedFrom}
+use Rattle.memory.specs.Memory.{loaded, loadedFrom, stored, storedFrom}
 use Rattle.format.specs.Kinds.{within}
 use Rattle.format.proofs.Ranges.{every, in-range}
 use Prim.Native.Nat.{_-_, _<_, _≤_, ℕ}
@@ -47,6 +47,9 @@ module _ (d : Destination) (r m l : List ℕ) (first : ℕ) (ef : first ≡ firs
 
 pub stored-to : (r m n : List ℕ) (a x mask : ℕ) (v y : List ℕ) → a ≡ x → v ≡ y → n ≡ storedFrom m a mask v → state r n ≡ state r (storedFrom m x mask y)
 stored-to r m n a x mask v y ea ev h = cc
+
+pub new-stored : (m l : List ℕ) (a new w : ℕ) → l ≡ stored m a new → new ≡ w → l ≡ stored m a w
+new-stored m l a new w el en = el ∙ ap (stored m a) en
 
 -- ---- the family of a kind
 

@@ -8,10 +8,10 @@ use lib.ListN.{getD}
 use Rattle.words.specs.Word.{cas}
 use Rattle.format.specs.Kinds.{within}
 use Rattle.format.specs.declared.fields.Destination.{Destination}
-use Rattle.effects.specs.Destinations.{State, components, written}
-use Rattle.effects.specs.Memory.{loaded, stored, loadedFrom, storedFrom}
+use Rattle.destinations.specs.Destinations.{State, components, written}
+use Rattle.memory.specs.Memory.{loaded, stored, loadedFrom, storedFrom}
 use Rattle.results.specs.Arithmetic.{atomic, wideUnaryOf, wideOf}
-use Rattle.effects.specs.Sources.{sourceWord, resultWords}
+use Rattle.componentwise.specs.Sources.{sourceWord, resultWords}
 
 abbrev pub state : List ℕ → List ℕ → State
 state r m = record { registers = r; memory = m }

@@ -1,4 +1,1 @@
-pub mod Destinations
-pub mod Memory
-pub mod Sources
 pub mod Effect

@@ -1,21 +1,21 @@
 // The effect of an instruction on registers and memory: a match on the kind with ranges.
-use crate::destinations::first_word;
-use crate::destinations::write;
-use crate::memory::load;
-use crate::memory::load_from;
-use crate::memory::store;
-use crate::memory::store_from;
-use crate::result_words::write_words;
 use crate::sources::source;
-use crate::sources::source_word;
+use crate::sources::x_of;
+use componentwise::write_words;
+use destinations::first_word;
+use destinations::write;
 use format::fields::Destination;
+use memory::load;
+use memory::load_from;
+use memory::store;
+use memory::store_from;
 use order::cas32;
 use results::atomic_word;
 use results::wide::wide_unary_words;
 use results::wide::wide_words;
 ghost use mathlib.Core.Path.{_≡_};
 ghost use Rattle.words.specs.Word.{cas};
-ghost use Rattle.effects.specs.Memory.{loaded, stored};
+ghost use Rattle.memory.specs.Memory.{loaded, stored};
 ghost use Rattle.results.specs.Arithmetic.{atomic as atomicOf};
 ghost use Rattle.effects.specs.Effect.{state, familyOf, effectOf};
 
@@ -49,7 +49,7 @@ pub fn effect(
 {
     let first = first_word(d);
     let mask = d.mask;
-    let x = source_word(sources, 0, 0);
+    let x = x_of(sources, 0);
     match kind {
         0x10..=0x1a => write_words(registers, first, mask, kind, sources),
         0x1b..=0x1d => write(
@@ -66,13 +66,13 @@ pub fn effect(
         }
         0x58 => store_from(memory, x, mask, source(sources, 1)),
         0x56..=0x5f => {
-            let old = atomic(kind, memory, x, source_word(sources, 1, 0));
+            let old = atomic(kind, memory, x, x_of(sources, 1));
             write(registers, first, mask, [old, old, old, old]);
         }
         0x60..=0x63 => write_words(registers, first, mask, kind, sources),
         0x64 => {
-            let b = source_word(sources, 1, 0);
-            let old = atomic_cas(memory, x, b, source_word(sources, 2, 0));
+            let b = x_of(sources, 1);
+            let old = atomic_cas(memory, x, b, x_of(sources, 2));
             write(registers, first, mask, [old, old, old, old]);
         }
         0x70 => write_words(registers, first, mask, kind, sources),

@@ -3,7 +3,7 @@ ghost use mathlib.Core.Path.{_≡_};
 ghost use mathlib.Core.List.{[]};
 ghost use Prim.Native.Nat.{_<_};
 ghost use lib.ListN.{getD};
-ghost use Rattle.effects.specs.Sources.{sourceWord};
+ghost use Rattle.effects.specs.Effect.{xOf};
 
 // Source j.
 pub fn source(sources: &[[u32; 4]; 4], j: usize) -> [u32; 4]
@@ -13,10 +13,10 @@ pub fn source(sources: &[[u32; 4]; 4], j: usize) -> [u32; 4]
     sources[j]
 }
 
-// Component i of source j.
-pub fn source_word(sources: &[[u32; 4]; 4], j: usize, i: usize) -> u32
-    requires { ⌜ (j < 4) × (i < 4) ⌝ }
-    ensures { λ r. ⌜ r ≡ sourceWord (now (sources .entry)) j i ⌝ }
+// Component x of source j.
+pub fn x_of(sources: &[[u32; 4]; 4], j: usize) -> u32
+    requires { ⌜ j < 4 ⌝ }
+    ensures { λ r. ⌜ r ≡ xOf (now (sources .entry)) j ⌝ }
 {
-    sources[j][i]
+    sources[j][0]
 }

@@ -22,7 +22,7 @@ use Rattle.checker.specs.Check.{accepted, checkOf}
 use Rattle.checker.specs.Findings.{Seen}
 use Rattle.checker.proofs.Accepted.{source-inside, indirect-file}
 use Rattle.checker.proofs.Followed.{followed}
-use Rattle.effects.specs.Destinations.{components, zeros}
+use Rattle.destinations.specs.Destinations.{components, zeros}
 use Rattle.sources.specs.Operands.{Env, wordIn, envWith, fourFrom, registerWords, ifDeclared, registerOf, taken, takenAt, sourceOf, kindByte, nthSource, sourcesOf}
 use Rattle.sources.specs.declared.operands.Place.{Place}
 use Rattle.sources.specs.declared.operands.Place.the-variants.{Register, Nowhere}

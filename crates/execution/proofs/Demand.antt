@@ -25,7 +25,7 @@ use Rattle.table.specs.Prepared.{opFrom}
 use Rattle.checker.specs.Check.{accepted, checkOf}
 use Rattle.checker.specs.Findings.{Seen}
 use Rattle.checker.proofs.Followed.{followed}
-use Rattle.effects.specs.Destinations.{State}
+use Rattle.destinations.specs.Destinations.{State}
 use Rattle.effects.specs.Effect.{effectOf, familyOf, xOf}
 use Rattle.sources.specs.Bank.{envIn}
 use Rattle.sources.specs.Operands.{Env, kindByte}

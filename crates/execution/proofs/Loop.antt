@@ -11,7 +11,7 @@ use Rattle.blocks.specs.declared.Next.the-variants.{At, Ended}
 use Rattle.blocks.specs.Reading.{Reading}
 use Rattle.blocks.specs.Run.{mostInstructions, Step, follow, step}
 use Rattle.blocks.specs.Table.{rowIn}
-use Rattle.effects.specs.Destinations.{State}
+use Rattle.destinations.specs.Destinations.{State}
 use Rattle.effects.specs.Effect.{state}
 use Rattle.sources.specs.Operands.{Env}
 use Rattle.machine.specs.Step.{stepped}

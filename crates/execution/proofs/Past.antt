@@ -23,10 +23,10 @@ use Rattle.checker.specs.Check.{accepted, checkOf}
 use Rattle.checker.specs.Findings.{Seen}
 use Rattle.checker.proofs.Followed.{Followed, followed}
 use Rattle.results.specs.Arithmetic.{wideUnaryOf, wideOf}
-use Rattle.effects.specs.Destinations.{State, components, firstWord, ifMasked, masked, placed}
+use Rattle.destinations.specs.Destinations.{State, components, firstWord, ifMasked, masked, placed}
 use Rattle.effects.specs.Effect.{Family, WORDS, WIDE-UNARY, LOAD, WIDE, STORE, ATOMIC, ATOMCAS, NONE, familyOf, effectOf, xOf}
-use Rattle.effects.specs.Memory.{loaded, loadedFrom}
-use Rattle.effects.specs.Sources.{resultWords}
+use Rattle.memory.specs.Memory.{loaded, loadedFrom}
+use Rattle.componentwise.specs.Sources.{resultWords}
 use Rattle.sources.specs.Operands.{kindByte, sourcesOf}
 use Rattle.machine.specs.Step.{recordEffect}
 use Rattle.execution.specs.Program.{placeOf, envOf, programOf, carriedOut}

@@ -8,7 +8,7 @@ use Rattle.blocks.specs.Lists.{Items, nestedLists}
 use Rattle.blocks.specs.Reading.{Reading, reading}
 use Rattle.table.specs.Prepared.{opFrom}
 use Rattle.checker.specs.Findings.{Seen}
-use Rattle.effects.specs.Destinations.{State}
+use Rattle.destinations.specs.Destinations.{State}
 use Rattle.sources.specs.Operands.{Env, envWith}
 use Rattle.machine.specs.Step.{machineOf}
 

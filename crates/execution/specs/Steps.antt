@@ -8,7 +8,7 @@ use Rattle.blocks.specs.Control.{Machine}
 use Rattle.blocks.specs.Reading.{Reading, ended, halted}
 use Rattle.blocks.specs.Run.{mostInstructions, follow, step}
 use Rattle.blocks.specs.Table.{rowIn, placeIn}
-use Rattle.effects.specs.Destinations.{State}
+use Rattle.destinations.specs.Destinations.{State}
 use Rattle.sources.specs.Operands.{Env}
 use Rattle.machine.specs.Step.{machineOf}
 use Rattle.execution.specs.declared.Report.{Report}

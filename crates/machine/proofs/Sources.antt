@@ -1,7 +1,7 @@
 -- All sources of a record, one after the other.
 -- Assumes nothing.
 use Rattle.sources.specs.Operands.{Env, nthSource, sourceOf, sourcesOf}
-use Rattle.effects.specs.Destinations.{zeros}
+use Rattle.destinations.specs.Destinations.{zeros}
 use Rattle.format.specs.Kinds.{firstSource, formOf, sources}
 use Rattle.format.proofs.Ranges.{in-range}
 use Rattle.format.specs.Fields.{sourceAt}

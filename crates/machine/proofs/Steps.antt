@@ -1,7 +1,7 @@
 -- A step: each arm of the match is the step of the table's row, by the control instruction that the kind is.
 -- Assumes nothing.
-use Rattle.effects.specs.Sources.{sourceWord}
-use Rattle.effects.specs.Destinations.{State}
+use Rattle.componentwise.specs.Sources.{sourceWord}
+use Rattle.destinations.specs.Destinations.{State}
 use Rattle.effects.specs.Effect.{NONE, effectOf, familyOf, state}
 use Rattle.effects.proofs.Effects.{kindIn, same-family}
 use Rattle.sources.specs.Bank.{envIn, part}

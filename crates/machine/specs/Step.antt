@@ -7,7 +7,7 @@ use Rattle.format.specs.Fields.{destinationAt, caseAt}
 use Rattle.blocks.specs.Control.{Machine}
 use Rattle.blocks.specs.Run.{Step}
 use Rattle.blocks.specs.declared.Next.{Next}
-use Rattle.effects.specs.Destinations.{State}
+use Rattle.destinations.specs.Destinations.{State}
 use Rattle.effects.specs.Effect.{familyOf, effectOf, state, xOf}
 use Rattle.sources.specs.Operands.{Env, kindByte, sourcesOf}
 

@@ -3,7 +3,7 @@ use blocks::MOST_INSTRUCTIONS;
 use blocks::ROW_WORDS;
 use blocks::control::CASE;
 use blocks::control::DEFAULT;
-use effects::lent::word_at;
+use destinations::lent::word_at;
 use readers::byte_at;
 use readers::case_word;
 ghost use mathlib.Core.Path.{_≡_};

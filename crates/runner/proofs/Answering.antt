@@ -20,7 +20,7 @@ use Rattle.checker.specs.Findings.{Seen}
 use Rattle.checker.specs.Inner.Held.{outcome, concluded}
 use Rattle.checker.proofs.Examining.{outcome-is, words-are}
 use Rattle.checker.proofs.Followed.{followed}
-use Rattle.effects.specs.Destinations.{State}
+use Rattle.destinations.specs.Destinations.{State}
 use Rattle.effects.specs.Effect.{state}
 use Rattle.sources.specs.Bank.{envIn}
 use Rattle.admission.specs.Admission.{admissionOf}

@@ -18,8 +18,8 @@ use Rattle.registers.specs.Rules.{destinationRule, sourceRule, allOperands, dec
 use Rattle.checker.specs.Check.{walk, checkOf, follows, breaks}
 use Rattle.checker.specs.Findings.{withDeclaration, declarationFinding, withImmediate, immediateFinding, withInstruction, instructionFinding, recordFinding}
 use Rattle.results.specs.Arithmetic.{unary, binary, ternary, resultWord, wide, halves, countOr, wideOf}
-use Rattle.effects.specs.Destinations.{components, ifMasked, masked, firstWord}
-use Rattle.effects.specs.Sources.{resultWords}
+use Rattle.destinations.specs.Destinations.{components, ifMasked, masked, firstWord}
+use Rattle.componentwise.specs.Sources.{resultWords}
 use Rattle.effects.specs.Effect.{familyOf}
 use Rattle.sources.specs.Operands.{registerWords, registerOf, taken, sourceOf, nthSource, sourcesOf}
 use Rattle.machine.specs.Step.{recordEffect}

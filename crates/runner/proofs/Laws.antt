@@ -14,7 +14,7 @@ use Rattle.blocks.proofs.Inside.{Stays}
 use Rattle.checker.specs.Check.{Outcome, accepted, refused, follows, breaks}
 use Rattle.checker.specs.Findings.{Seen}
 use Rattle.checker.proofs.Followed.{followed}
-use Rattle.effects.specs.Destinations.{State}
+use Rattle.destinations.specs.Destinations.{State}
 use Rattle.effects.specs.Effect.{state}
 use Rattle.admission.specs.Admission.{admissionOf}
 use Rattle.admission.proofs.Admitting.{admitted-is}

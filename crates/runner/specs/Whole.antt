@@ -10,7 +10,7 @@ use Rattle.blocks.specs.Reading.{Reading, out, brk, cont, ended, halted}
 use Rattle.table.specs.Prepared.{tableWords}
 use Rattle.checker.specs.Findings.{Seen}
 use Rattle.checker.specs.Check.{Outcome, accepted, refused, checkOf, follows, breaks}
-use Rattle.effects.specs.Destinations.{State}
+use Rattle.destinations.specs.Destinations.{State}
 use Rattle.effects.specs.Effect.{state}
 use Rattle.admission.specs.declared.Sizes.{Sizes}
 use Rattle.admission.specs.Admission.{workShort, admissionOf}

@@ -2,7 +2,7 @@
 -- Assumes nothing.
 use Rattle.sources.specs.Bank.{envIn, part, declaredIn}
 use Rattle.sources.specs.Operands.{Env, fourFrom, ifDeclared, negated, registerOf, registerWords, selected, sourceOf, taken, wordIn}
-use Rattle.effects.specs.Destinations.{components, zeros}
+use Rattle.destinations.specs.Destinations.{components, zeros}
 use Rattle.words.specs.Word.{bitIn, neg, signed}
 use Rattle.format.specs.Fields.{indirection, negates}
 use Prim.Native.Nat.{_*_, _+_, _-_, _/_, _<_, _^_, _≤_, suc, zero, ℕ}

@@ -11,7 +11,7 @@ use Rattle.format.specs.Files.{CONST, IN, TEMP, IMM, tempFrom, addrFrom}
 use Rattle.format.specs.Kinds.{formOf, sources, sourcePlace}
 use Rattle.format.specs.Fields.{sourceAt, negates, indirection}
 use Rattle.format.specs.declared.fields.Source.{Source}
-use Rattle.effects.specs.Destinations.{components, zeros}
+use Rattle.destinations.specs.Destinations.{components, zeros}
 use Rattle.sources.specs.declared.operands.Place.{Place}
 use Rattle.sources.specs.declared.operands.Place.the-variants.{Register, Nowhere}
 

@@ -2,7 +2,7 @@
 use crate::bank::Bank;
 use crate::parts;
 use bits::bit_in;
-use effects::lent::word_at;
+use destinations::lent::word_at;
 use format::fields::Source;
 use format::fields::indirection;
 use format::fields::negates;

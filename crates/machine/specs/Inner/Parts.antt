@@ -4,7 +4,7 @@ use Prim.Native.Nat.{ℕ}
 use mathlib.Core.Bool.{Bool, false}
 use mathlib.Core.List.{List, [], _∷_}
 use Rattle.blocks.specs.Control.{Machine, caseOf}
-use Rattle.effects.specs.Destinations.{State, zeros}
+use Rattle.destinations.specs.Destinations.{State, zeros}
 use Rattle.sources.specs.Operands.{envWith}
 use Rattle.machine.specs.Step.{machineOf}
 
