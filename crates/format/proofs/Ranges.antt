@@ -1,11 +1,13 @@
 -- Ranges of kinds: a test that holds of each number from one to another holds of a kind between them, which antt computes.
 -- Assumes nothing.
-use mathlib.Core.Bool.{Bool, true, false, _&&_}
+use mathlib.Core.Path.{_≡_, sym}
+use mathlib.Core.Bool.{Bool, true, false, _&&_, _||_}
 use mathlib.Core.Logic.{⊎-elim}
 use Prim.Native.Nat.{ℕ, zero, suc, _+_, _-_, _<_, _≤_}
 use native.Mathlib.Omega.{arith}
 use native.Mathlib.Nat.{add-suc, add-zero, eq-or-lt-of-le, le-of-suc-le-suc}
-use lib.Dec.{T}
+use borrow.Author.Tests.{ne-eqb}
+use lib.Dec.{T, eqb, eqb→eq}
 
 -- a test of each number from lo on, n of them
 abbrev pub every : (ℕ → Bool) → ℕ → ℕ → Bool
@@ -28,3 +30,13 @@ every-at t lo (suc n) k h a b =
 
 pub in-range : (t : ℕ → Bool) (lo hi k : ℕ) → T (every t lo (hi - lo)) → lo ≤ k → k < hi → T (t k)
 in-range t lo hi k h a b = every-at t lo (hi - lo) k h a (omega arith)
+
+-- A number that a rule gives at a kind, and at every kind of a range but one that has an arm of its own.
+module _ (rule : ℕ → ℕ) (n : ℕ) where
+  pub given-at : (own : ℕ) → n ≡ rule own → (k : ℕ) → k ≡ own → n ≡ rule k
+  given-at own h k e = rw e h
+
+  pub given-in : (own lo hi : ℕ) → T (every (λ k. eqb k own || eqb (rule k) n) lo (hi - lo)) → (k : ℕ) → (k ≡ own → ⊥) → lo ≤ k → k < hi → n ≡ rule k
+  given-in own lo hi h k d a b =
+      let told : T (eqb (rule k) n) = simp (ne-eqb k own d) at (in-range (λ k. eqb k own || eqb (rule k) n) lo hi k h a b) in
+      sym (eqb→eq (rule k) n told)

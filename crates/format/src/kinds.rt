@@ -272,27 +272,25 @@ pub fn body_length(kind: u8) -> u8
     LENGTHS[kind as usize]
 }
 
-// How many destinations instructions of a kind have: by "4 per destination plus 5 per source" a body has four bytes beyond
-// its fives where there is one. Bodies of 5 and 16, and UNKNOWN, have less beyond.
+// How many destinations instructions of a kind have.
 pub fn destinations_of(kind: u8) -> u8
     ensures { λ r. ⌜ r ≡ destinations (formOf kind) ⌝ }
 {
-    body_length(kind) % 5 / 4
+    match kind {
+        0x10..=0x1e | 0x20..=0x37 | 0x40..=0x52 | 0x56..=0x5f | 0x60..=0x64 | 0x70 => 1,
+        _ => 0,
+    }
 }
 
-// How many sources, by the same rule: a length stands for one number of them from 0x10 on, where the instructions are.
+// How many sources.
 pub fn sources_of(kind: u8) -> u8
     ensures { λ r. ⌜ r ≡ sources (formOf kind) ⌝ }
 {
-    if kind < 0x10 {
-        return 0;
-    }
-    match body_length(kind) {
-        5 => 1,
-        9 => 1,
-        14 => 2,
-        19 => 3,
-        24 => 4,
+    match kind {
+        0x10..=0x1e | 0x90..=0x92 => 1,
+        0x20..=0x37 | 0x40..=0x52 | 0x56..=0x5f => 2,
+        0x60..=0x64 => 3,
+        0x70 => 4,
         _ => 0,
     }
 }
