@@ -26,7 +26,7 @@ unfolding opOf
 else-kind k e = rw e
 
 module _ (k : ℕ) (h : opens (opOf k) ≡ true) where
-  opening-kind : (A : Type 0) → (k ≡ 0x83 → A) → (k ≡ 0x90 → A) → (k ≡ 0x91 → A) → A
+  pub opening-kind : (A : Type 0) → (k ≡ 0x83 → A) → (k ≡ 0x90 → A) → (k ≡ 0x91 → A) → A
   opening-kind A l u s = by-kind (λ o. opens o ≡ true → A) k on none h
     where
       none : false ≡ true → A
@@ -49,9 +49,6 @@ module _ (k : ℕ) (h : opens (opOf k) ≡ true) where
 
   pub loop-or-switch : (k ≡ 0x90 → ⊥) → (k ≡ 0x83) ⊎ (k ≡ 0x91)
   loop-or-switch u = opening-kind ((k ≡ 0x83) ⊎ (k ≡ 0x91)) (λ e. inl e) (λ e. absurd (u e)) (λ e. inr e)
-
-  pub uif-left : (k ≡ 0x83 → ⊥) → (k ≡ 0x91 → ⊥) → k ≡ 0x90
-  uif-left l s = opening-kind (k ≡ 0x90) (λ e. absurd (l e)) (λ e. e) (λ e. absurd (s e))
 
 pub not-else : (k : ℕ) → (k ≡ 0x81 → ⊥) → is ELSE (opOf k) ≡ false
 not-else k a = not-kind ELSE k refl a

@@ -2,5 +2,4 @@ pub mod Filled
 pub mod Located
 pub mod Rows
 pub mod Same
-pub mod Jumps
 pub mod Words

@@ -3,7 +3,7 @@
 use mathlib.Core.Path.{_≡_, refl, sym, _∙_}
 use mathlib.Core.Bool.{Bool, true, false, cond}
 use mathlib.Core.List.{List, [], _∷_, _++_, append-nil, append-assoc}
-use Prim.Native.Nat.{ℕ, suc, _+_, _*_, _<_, _≤_}
+use Prim.Native.Nat.{ℕ, suc, _+_, _-_, _*_, _<_, _≤_}
 use native.Mathlib.Omega.{arith}
 use native.Mathlib.Numerals.{add-one}
 use lib.ListN.{length, getD}
@@ -16,47 +16,59 @@ use Rattle.blocks.specs.declared.Targets.{Targets}
 use Rattle.blocks.specs.Table.{inUif, inLoop, inSwitch, jumpOf, firstLabel, rowOf, uifRow, loopRow, switchRow, rows, rowWords, wordsOf}
 use Rattle.blocks.proofs.Agree.{length-rows}
 use Rattle.lists.specs.Lists.{blockOf, opIn, listIn, blockIn}
+use Rattle.rows.specs.Opened.{pastFirst, firstRow, openedBy, insideOf}
+use Rattle.rows.specs.declared.Opened.{Opened}
 use Rattle.table.specs.Inner.Rows.{wordsIn, singleIn, Room, Near, Opening}
-use Rattle.lists.proofs.Laid.{list-laid, laid-label}
+use Rattle.lists.proofs.Laid.{Laid, list-laid, laid-label}
 use Rattle.lists.proofs.Readers.{list-within, past-end, at-last, at-plain, at-opening, at-loop, at-switch, at-uif}
-use Rattle.lists.proofs.Tests.{uif-left, last-no-label}
+use Rattle.lists.proofs.Tests.{uif-kind, loop-kind, switch-kind, opening-kind, last-no-label}
 use Rattle.table.proofs.Words.{rows-then}
-
-pub chosen : (t v : Bool) (r x : ℕ) → t ≡ v → t ≡ true → r ≡ x → r ≡ cond v x 0
-chosen t v r x e k f = rw (sym e ∙ k, f)
-
-pub not-chosen : (t v : Bool) (x : ℕ) → t ≡ v → t ≡ false → 0 ≡ cond v x 0
-not-chosen t v x e k = rw (sym e ∙ k)
 
 -- ---- Numbers that fit a row
 
 module _ (kinds places work : List ℕ) (room : Room kinds places work) where
-  pub end-near : (n e : ℕ) → n < length kinds → e ≡ n + size (blockIn kinds n) → e ≤ mostInstructions
-  end-near n e h d = omega (arith, list-within kinds n (omega arith), block-most (listIn kinds n), room .few)
-    where
-      block-most : (l : Items) → size (blockOf l) ≤ size l
-      block-most nil = omega arith
-      block-most (one n rest) = omega arith
-      block-most (uif n p q rest) = omega arith
-      block-most (loop n l rest) = omega arith
-      block-most (switch n l rest) = omega arith
-
-  pub past-near : (n p : ℕ) → n < length kinds → p ≡ n + 1 + size (listIn kinds (n + 1)) → p ≤ mostInstructions
-  past-near n p h d = omega (arith, list-within kinds (n + 1) (omega arith), room .few)
-
-  pub first-near : (n l : ℕ) → l ≡ firstLabel (opIn kinds) (listIn kinds n) → l ≤ mostInstructions
-  first-near n l d =
-      omega (arith, laid-label (opIn kinds) (length kinds) (listIn kinds n) n (list-laid (opIn kinds) (length kinds) n), room .few)
-
   pub label-near : (t : Bool) (n l : ℕ) → l ≡ cond t (firstLabel (opIn kinds) (listIn kinds n)) 0 → l ≤ mostInstructions
-  label-near true n l d = first-near n l d
+  label-near true n l d =
+      omega (arith, laid-label (opIn kinds) (length kinds) (listIn kinds n) n (list-laid (opIn kinds) (length kinds) n), room .few)
   label-near false n l d = omega arith
 
   pub next-near : (n : ℕ) → n < length kinds → n + 1 ≤ mostInstructions
   next-near n h = omega (arith, room .few)
 
-pub none-near : 0 ≤ mostInstructions
-none-near = omega arith
+  -- The block that instruction n opens.
+  module _ (n : ℕ) (o : Opened) (h : n < length kinds) (found : o ≡ openedBy (opIn kinds) n (blockIn kinds n)) where
+    block-near : n + size (blockIn kinds n) ≤ mostInstructions
+    block-near = omega (arith, list-within kinds n (omega arith), block-most (listIn kinds n), room .few)
+      where
+        block-most : (l : Items) → size (blockOf l) ≤ size l
+        block-most nil = omega arith
+        block-most (one n rest) = omega arith
+        block-most (uif n p q rest) = omega arith
+        block-most (loop n l rest) = omega arith
+        block-most (switch n l rest) = omega arith
+
+    pub end-near : o .end ≤ mostInstructions
+    end-near = rw found block-near
+
+    pub opening-jump-near : o .jump ≤ mostInstructions
+    opening-jump-near = rw found (omega (arith, block-near, within (blockIn kinds n)))
+      where
+        within : (l : Items) → firstRow (opIn kinds) n l .jump ≤ n + size l
+        within nil = omega arith
+        within (one m rest) = omega arith
+        within (uif m p q rest) = omega arith
+        within (loop m l rest) = omega arith
+        within (switch m l rest) = omega arith
+
+    pub opening-label-near : o .label ≤ mostInstructions
+    opening-label-near = rw found (omega (arith, within (listIn kinds n) (list-laid (opIn kinds) (length kinds) n), room .few))
+      where
+        within : (l : Items) → Laid (length kinds) l n → firstRow (opIn kinds) n (blockOf l) .label ≤ length kinds
+        within nil w = omega arith
+        within (one m rest) w = omega arith
+        within (uif m p q rest) w = omega arith
+        within (loop m l rest) w = omega arith
+        within (switch m l rest) w = laid-label (opIn kinds) (length kinds) l (suc n) (w .2)
 
 pub near-of : (b c a : ℕ)
     → b ≤ mostInstructions
@@ -65,12 +77,31 @@ pub near-of : (b c a : ℕ)
     → Near (record { brk = b; cont = c; after = a })
 near-of b c a hb hc ha = record { brk = hb; cont = hc; after = ha }
 
-pub body-near : (t : Targets) (b c : ℕ)
-    → t ≡ record { brk = b; cont = c; after = 0 }
-    → b ≤ mostInstructions
-    → c ≤ mostInstructions
+pub inside-near : (t u : Targets) (k first end : ℕ)
     → Near t
-body-near t b c e hb hc = rw e (near-of b c 0 hb hc none-near)
+    → u ≡ insideOf (opOf k) first end t
+    → first ≤ mostInstructions
+    → end ≤ mostInstructions
+    → Near u
+inside-near t u k first end near e hf he = rw e (by (opOf k))
+  where
+    part : Near (record { brk = t .brk; cont = t .cont; after = end })
+    part = near-of (t .brk) (t .cont) end (near .brk) (near .cont) he
+
+    by : (o : Op) → Near (insideOf o first end t)
+    by BGNLOOP = near-of end first 0 he hf (omega arith)
+    by SWITCH = near-of end (t .cont) 0 he (near .cont) (omega arith)
+    by UIF = part
+    by PLAIN = part
+    by ELSE = part
+    by ENDIF = part
+    by ENDLOOP = part
+    by BRK = part
+    by CONT = part
+    by DEFAULT = part
+    by ENDSWITCH = part
+    by END = part
+    by CASE = part
 
 pub jump-near : (t : Targets) → Near t → (o : Op) (j : ℕ) → j ≡ jumpOf o t → j ≤ mostInstructions
 jump-near t near ELSE j d = omega (arith, near .after)
@@ -108,6 +139,21 @@ length-kept w w1 vs i n h e = rw (e, length-sets w i vs) h
 
 pub opens-block : (kinds : List ℕ) (n : ℕ) (t : Bool) → n < length kinds → t ≡ opens (opOf (getD kinds n 0)) → t ≡ true → Opening kinds n
 opens-block kinds n t h e k = record { there = h; opening = sym e ∙ k }
+
+pub end-found : (kinds : List ℕ) (n : ℕ) (o : Opened) → o ≡ openedBy (opIn kinds) n (blockIn kinds n) → o .end ≡ n + size (blockIn kinds n)
+end-found kinds n o found = rw found
+
+-- A second part starts after the instruction.
+pub second-falls : (kinds : List ℕ) (n m : ℕ) (o : Opened)
+    → 2 * (length kinds - n) ≡ m
+    → Opening kinds n
+    → o ≡ openedBy (opIn kinds) n (blockIn kinds n)
+    → 2 * (length kinds - o .second) + 1 < m
+second-falls kinds n m o e opening found =
+    let h = opening .there in
+    let later : n < pastFirst n (blockIn kinds n)
+    = at-opening kinds n h (λ l. n < pastFirst n (blockOf l)) true (sym (opening .opening)) refl (λ q. omega arith) (omega arith) (omega arith) in
+    rw found (omega arith)
 
 module _ (kinds places : List ℕ) (t : Targets) where
   abbrev place : ℕ → ℕ
@@ -187,7 +233,7 @@ module _ (kinds places : List ℕ) (t : Targets) where
     list : Items
     list = listIn kinds (suc n)
 
-    pub open-loop : (u : Targets)
+    open-loop : (u : Targets)
         → u ≡ record { brk = e; cont = n + 1; after = 0 }
         → getD kinds n 0 ≡ 0x83
         → w1 ≡ sets w (rowWords * n) (getD places n 0 ∷ 0 ∷ 0 ∷ [])
@@ -201,7 +247,7 @@ module _ (kinds places : List ℕ) (t : Targets) where
         (rows-then place n (suc n) (loopRow ∷ []) (rows op (inLoop n list) list) w w1 w2 wrote (omega arith)
         (rw (g, fin, add-one n) at inside))
 
-    pub open-switch : (l : ℕ)
+    open-switch : (l : ℕ)
         → l ≡ firstLabel (opIn kinds) (listIn kinds (n + 1))
         → w1 ≡ sets w (rowWords * n) (getD places n 0 ∷ e ∷ l ∷ [])
         → (u : Targets) (w2 : List ℕ)
@@ -218,16 +264,11 @@ module _ (kinds places : List ℕ) (t : Targets) where
 
     -- A UIF's first part ends before number p, and is written.
     module _ (p : ℕ) (w2 : List ℕ)
-        (o : Opening kinds n)
-        (no-loop : getD kinds n 0 ≡ 0x83 → ⊥)
-        (no-switch : getD kinds n 0 ≡ 0x91 → ⊥)
+        (k : getD kinds n 0 ≡ 0x90)
         (first : p ≡ n + 1 + size (listIn kinds (n + 1)))
         (wrote : w1 ≡ sets w (rowWords * n) (getD places n 0 ∷ p ∷ 0 ∷ []))
         (inside : w2 ≡ sets w1 (rowWords * (n + 1)) (wordsIn kinds places (record { brk = t .brk; cont = t .cont; after = e }) (n + 1) (listIn kinds (n + 1))))
       where
-        k : getD kinds n 0 ≡ 0x90
-        k = uif-left (getD kinds n 0) (o .opening) no-loop no-switch
-
         part : p ≡ suc n + size list
         unfolding list
         part = rw (add-one n) at first
@@ -242,7 +283,7 @@ module _ (kinds places : List ℕ) (t : Targets) where
             rows-then place n (suc n) (uifRow n list ∷ []) (rows op (inUif n list q t) list) w w1 w2 (rw part at wrote) (omega arith)
             (rw (fin′, add-one n) at inside)
 
-        pub open-if : e ≤ p → w2 ≡ sets w (rowWords * n) (wordsIn kinds places t n (blockIn kinds n))
+        open-if : e ≤ p → w2 ≡ sets w (rowWords * n) (wordsIn kinds places t n (blockIn kinds n))
         unfolding wordsIn rows list
         open-if le =
             at-uif kinds n h (λ l. e ≡ n + size l → w2 ≡ sets w (rowWords * n) (wordsOf place n (rows op t l))) k
@@ -251,7 +292,7 @@ module _ (kinds places : List ℕ) (t : Targets) where
             rw (none, append-nil (rows op (inUif n list nil t) list)) (first-rows nil (rw none at fin)))
             ends
 
-        pub open-else : p < e
+        open-else : p < e
             → (w3 : List ℕ)
             → w3 ≡ sets w2 (rowWords * p) (wordsIn kinds places (record { brk = t .brk; cont = t .cont; after = e }) p (listIn kinds p))
             → w3 ≡ sets w (rowWords * n) (wordsIn kinds places t n (blockIn kinds n))
@@ -266,3 +307,71 @@ module _ (kinds places : List ℕ) (t : Targets) where
             (rows-then place n p (uifRow n list ∷ rows op v list) (rows op v q) w w2 w3 (first-rows q fin)
             (omega (arith, part, length-rows op v list)) (rw (same, fin′) at more)))
             ends
+
+  -- By the kind of the instruction, whose block was found.
+  module _ (n : ℕ) (o : Opened) (w w1 : List ℕ)
+      (opening : Opening kinds n)
+      (found : o ≡ openedBy (opIn kinds) n (blockIn kinds n))
+      (wrote : w1 ≡ sets w (rowWords * n) (getD places n 0 ∷ o .jump ∷ o .label ∷ []))
+      (u : Targets) (goes : u ≡ insideOf (opOf (getD kinds n 0)) (n + 1) (o .end) t)
+      (w2 : List ℕ) (inside : w2 ≡ sets w1 (rowWords * (n + 1)) (wordsIn kinds places u (n + 1) (listIn kinds (n + 1))))
+    where
+      h : n < length kinds
+      h = opening .there
+
+      ends : o .end ≡ n + size (blockIn kinds n)
+      ends = rw found
+
+      by-kinds : (A : Type 0) → (getD kinds n 0 ≡ 0x83 → A) → (getD kinds n 0 ≡ 0x90 → A) → (getD kinds n 0 ≡ 0x91 → A) → A
+      by-kinds A l c s = opening-kind (getD kinds n 0) (opening .opening) A l c s
+
+      -- What was found of a UIF.
+      module _ (k : getD kinds n 0 ≡ 0x90) where
+        uif-second : o .second ≡ suc n + size (listIn kinds (suc n))
+        uif-second = rw found (at-uif kinds n h (λ l. pastFirst n l ≡ suc n + size (listIn kinds (suc n))) k (λ q other. refl))
+
+        uif-first : o .second ≡ n + 1 + size (listIn kinds (n + 1))
+        uif-first = rw (add-one n) uif-second
+
+        uif-jump : o .jump ≡ o .second
+        uif-jump = rw found (at-uif kinds n h (λ l. firstRow (opIn kinds) n l .jump ≡ pastFirst n l) k (λ q other. refl))
+
+        uif-label : o .label ≡ 0
+        uif-label = rw found (at-uif kinds n h (λ l. _≡_ {A = ℕ} (firstRow (opIn kinds) n l .label) 0) k (λ q other. refl))
+
+        uif-wrote : w1 ≡ sets w (rowWords * n) (getD places n 0 ∷ o .second ∷ 0 ∷ [])
+        uif-wrote = rw (uif-jump, uif-label) at wrote
+
+        uif-inside : w2 ≡ sets w1 (rowWords * (n + 1)) (wordsIn kinds places (record { brk = t .brk; cont = t .cont; after = o .end }) (n + 1) (listIn kinds (n + 1)))
+        uif-inside = rw (goes, uif-kind (getD kinds n 0) k) at inside
+
+      loop-once : getD kinds n 0 ≡ 0x83 → o .second ≡ o .end
+      loop-once k = rw (found, at-loop kinds n h k) (omega arith)
+
+      switch-once : getD kinds n 0 ≡ 0x91 → o .second ≡ o .end
+      switch-once k = rw (found, at-switch kinds n h k) (omega arith)
+
+      pub opens-once : o .end ≤ o .second → w2 ≡ sets w (rowWords * n) (wordsIn kinds places t n (blockIn kinds n))
+      opens-once le =
+          by-kinds (w2 ≡ sets w (rowWords * n) (wordsIn kinds places t n (blockIn kinds n)))
+          (λ k.
+          let j : o .jump ≡ 0 = rw (found, at-loop kinds n h k) in
+          let l : o .label ≡ 0 = rw (found, at-loop kinds n h k) in
+          open-loop n (o .end) w w1 h ends u (rw (loop-kind (getD kinds n 0) k) at goes) k (rw (j, l) at wrote) w2 inside)
+          (λ k. open-if n (o .end) w w1 h ends (o .second) w2 k (uif-first k) (uif-wrote k) (uif-inside k) le)
+          (λ k.
+          let j : o .jump ≡ o .end = rw (found, at-switch kinds n h k) (omega arith) in
+          let l : o .label ≡ firstLabel (opIn kinds) (listIn kinds (n + 1)) = rw (found, at-switch kinds n h k, add-one n) in
+          open-switch n (o .end) w w1 h ends (o .label) l (rw j at wrote) u w2 inside k (rw (switch-kind (getD kinds n 0) k) at goes))
+
+      pub opens-twice : o .second < o .end
+          → (w3 : List ℕ)
+          → w3 ≡ sets w2 (rowWords * o .second) (wordsIn kinds places u (o .second) (listIn kinds (o .second)))
+          → w3 ≡ sets w (rowWords * n) (wordsIn kinds places t n (blockIn kinds n))
+      opens-twice lt w3 more =
+          by-kinds (w3 ≡ sets w (rowWords * n) (wordsIn kinds places t n (blockIn kinds n)))
+          (λ k. absurd (omega (arith, loop-once k)))
+          (λ k.
+          open-else n (o .end) w w1 h ends (o .second) w2 k (uif-first k) (uif-wrote k) (uif-inside k) lt w3
+          (rw (goes, uif-kind (getD kinds n 0) k) at more))
+          (λ k. absurd (omega (arith, switch-once k)))

@@ -3,59 +3,27 @@
 use blocks::MOST_INSTRUCTIONS;
 use blocks::ROW_WORDS;
 use blocks::Targets;
-use blocks::control::BGNLOOP;
-use blocks::control::BRK;
-use blocks::control::CONT;
-use blocks::control::ELSE;
-use blocks::control::ENDLOOP;
-use blocks::control::SWITCH;
-use blocks::control::is_label;
 use blocks::control::is_last;
 use blocks::control::is_opening;
 use format::records::LONGEST;
-use lists::next_label;
-use lists::past;
-use lists::past_block;
 use readers::byte_at;
 use records::size_at;
+use rows::block_at;
+use rows::inside;
+use rows::jump_of;
+use rows::label_of;
 ghost use mathlib.Core.Path.{_≡_};
-ghost use mathlib.Core.Bool.{cond};
 ghost use mathlib.Core.List.{_∷_, []};
 ghost use Prim.Native.Nat.{_+_, _*_, _<_, _≤_};
 ghost use lib.ListN.{length};
 ghost use lib.Seq.{sets};
 ghost use Rattle.format.specs.Records.{longest, next};
-ghost use Rattle.blocks.specs.Control.{isLabel, opOf};
 ghost use Rattle.blocks.specs.Lists.{size};
 ghost use Rattle.blocks.specs.Run.{mostInstructions};
-ghost use Rattle.blocks.specs.Table.{jumpOf, firstLabel, rowWords};
+ghost use Rattle.blocks.specs.Table.{rowWords};
 ghost use Rattle.table.specs.Prepared.{filled};
-ghost use Rattle.lists.specs.Lists.{opIn, listIn, blockIn};
+ghost use Rattle.lists.specs.Lists.{listIn, blockIn};
 ghost use Rattle.table.specs.Inner.Rows.{wordsIn, singleIn, Located, Room, Near, Opening};
-
-// The targets in the list of a loop or a SWITCH, of which no ELSE is the last instruction.
-fn body_targets(brk: usize, cont: usize) -> Targets
-    ensures { λ r. ⌜ r ≡ record { brk = brk; cont = cont; after = 0 } ⌝ }
-{
-    Targets {
-        brk,
-        cont,
-        after: 0,
-    }
-}
-
-// The jump of an instruction that opens no block: of ELSE, ENDLOOP, BRK and CONT.
-fn jump_of(kind: u8, targets: Targets) -> usize
-    ensures { λ r. ⌜ r ≡ jumpOf (opOf kind) targets ⌝ }
-{
-    match kind {
-        ELSE => targets.after,
-        ENDLOOP => targets.cont,
-        BRK => targets.brk,
-        CONT => targets.cont,
-        _ => 0,
-    }
-}
 
 // Writes row n.
 fn put_row(work: &mut [u32], n: usize, place: u32, jump: usize, label: usize)
@@ -66,17 +34,6 @@ fn put_row(work: &mut [u32], n: usize, place: u32, jump: usize, label: usize)
     work[at] = place;
     work[at + 1] = jump as u32;
     work[at + 2] = label as u32;
-}
-
-// The label of instruction n, which opens no block: a label has the next one.
-fn label_of(kinds: &[u8], n: usize) -> usize
-    requires { ⌜ n < length (now kinds) ⌝ }
-    ensures { λ r. ⌜ r ≡ cond (isLabel (opIn (now (kinds .entry)) n)) (firstLabel (opIn (now (kinds .entry))) (listIn (now (kinds .entry)) (n + 1))) 0 ⌝ }
-{
-    if is_label(kinds[n]) {
-        return next_label(kinds, n + 1);
-    }
-    0
 }
 
 // Writes the row of instruction n, which opens no block.
@@ -124,31 +81,15 @@ fn opening(kinds: &[u8], places: &[u32], work: &mut [u32], n: usize, targets: Ta
     ensures past { λ r. ⌜ r ≡ n + size (blockIn (now (kinds .entry)) n) ⌝ }
     ensures rows { λ _. ⌜ now (work .exit) ≡ sets (now (work .entry)) (rowWords * n) (wordsIn (now (kinds .entry)) (now (places .entry)) targets n (blockIn (now (kinds .entry)) n)) ⌝ }
 {
-    let end = past_block(kinds, n);
-    let kind = kinds[n];
-    let place = places[n];
-    if kind == BGNLOOP {
-        put_row(work, n, place, 0, 0);
-        block(kinds, places, work, n + 1, body_targets(end, n + 1));
-        return end;
+    let found = block_at(kinds, n);
+    put_row(work, n, places[n], found.jump, found.label);
+    let first = n + 1;
+    let targets_inside = inside(kinds[n], first, found.end, targets);
+    block(kinds, places, work, first, targets_inside);
+    if found.second < found.end {
+        block(kinds, places, work, found.second, targets_inside);
     }
-    if kind == SWITCH {
-        put_row(work, n, place, end, next_label(kinds, n + 1));
-        block(kinds, places, work, n + 1, body_targets(end, targets.cont));
-        return end;
-    }
-    let second = past(kinds, n + 1);
-    put_row(work, n, place, second, 0);
-    let inside = Targets {
-        brk: targets.brk,
-        cont: targets.cont,
-        after: end,
-    };
-    block(kinds, places, work, n + 1, inside);
-    if second < end {
-        block(kinds, places, work, second, inside);
-    }
-    end
+    found.end
 }
 
 // The place that the walk reaches from a place after one record.
@@ -189,7 +130,7 @@ fn locate(file: &[u8], start: usize, count: usize) -> Instructions
 // Fills the table of a checked program: `count` instructions, the first at the byte place `start` of the file. Words past
 // the last row stay, and all words where the table cannot be made (`filled`).
 //
-// The cost is in proportion to instructions times open blocks. `opening` looks ahead for the end of its block, so an
+// The cost is in proportion to instructions times open blocks. `block_at` looks ahead for the end of its block, so an
 // instruction is passed once for each block around it. `next_label` goes from a label to the next of its own SWITCH, so all
 // the labels of a SWITCH together pass its list once. Calls are two deep for each open block, whatever the instructions.
 pub fn fill(file: &[u8], start: usize, count: usize, work: &mut [u32])

@@ -14,17 +14,15 @@ use Rattle.blocks.proofs.control.is_opening.Reads as is-opening-reads
 use Rattle.lists.specs.Lists.{listIn}
 use Rattle.table.specs.Inner.Rows.{wordsIn, Room}
 use Rattle.lists.proofs.Readers.{left-falls}
-use Rattle.table.proofs.Rows.{opens-block, length-kept, room-kept, end-near, next-near, near-of, body-near, past-near, first-near, block-stop, block-last, block-plain, block-opening, open-loop, open-switch, open-if, open-else}
+use Rattle.table.proofs.Rows.{opens-block, length-kept, room-kept, end-near, next-near, opening-jump-near, opening-label-near, inside-near, end-found, second-falls, block-stop, block-last, block-plain, block-opening, opens-once, opens-twice}
 use Rattle.table.proofs.block.Reads as block
 use Rattle.table.proofs.block.Kinds as block-kinds
 use Rattle.table.proofs.+block+opening.Lts-block as block-lts
 use Rattle.table.proofs.opening.Reads as opening
 use Rattle.table.proofs.opening.Kinds as opening-kinds
 use Rattle.table.proofs.+block+opening.Lts-opening as opening-lts
-use Rattle.lists.proofs.next_label.Reads as next-label-reads
-use Rattle.lists.proofs.past.Reads as past-reads
-use Rattle.lists.proofs.past_block.Reads as past-block-reads
-use Rattle.table.proofs.body_targets.Reads as body-targets-reads
+use Rattle.rows.proofs.block_at.Reads as block-at-reads
+use Rattle.rows.proofs.inside.Reads as inside-reads
 use Rattle.table.proofs.put_row.Reads as put-row-reads
 use Rattle.table.proofs.single.Reads as single-reads
 use Rattle.table.proofs.+block+opening.{statement}
@@ -62,18 +60,14 @@ block-claims t = (
 
 abbrev opening-claims : ℕ → opening-lts.Claims
 opening-claims t = (
-  past-block-reads.Asked,
-  past-block-reads.Learnt,
+  block-at-reads.Asked,
+  block-at-reads.Learnt,
   put-row-reads.Asked,
   put-row-reads.Learnt,
-  body-targets-reads.Asked,
-  body-targets-reads.Learnt,
+  inside-reads.Asked,
+  inside-reads.Learnt,
   block-below t,
   block.Post,
-  next-label-reads.Asked,
-  next-label-reads.Learnt,
-  past-reads.Asked,
-  past-reads.Learnt,
 )
 
 abbrev block-Inv-loop : block-lts.InvT-loop
@@ -110,29 +104,17 @@ pub +block+opening-spec : {M : Type 1} → statement M
     (λ c κs. search needs)
     (λ c. search needs)
     (λ c. search needs)
+    (λ c κs. search (needs, opening-jump-near, opening-label-near))
+    (λ c. search needs)
     (λ c. search needs)
     (λ c κs. search needs)
+    (λ c κs. (search needs, (search (needs, room-kept), search (needs, inside-near, next-near, end-near))))
+    (λ c κs.
+    let pre = c .before .before .before .before .before .before .before .before .before .before .before .before .before .before .before .before .before .before .pre in
+    (search (needs, second-falls, pre), (search (needs, room-kept), search (needs, inside-near, next-near, end-near))))
     (λ c. search needs)
+    (λ c.
+    let pre = c .before .before .before .before .before .before .before .before .before .before .before .before .before .before .before .before .before .before .before .before .before .pre in
+    (search (needs, end-found), search (needs, opens-twice, pre)))
     (λ c. search needs)
-    (λ c κs. search needs)
-    (λ c κs. (search needs, (search (needs, room-kept), search (needs, body-near, end-near, next-near))))
-    (λ c. search needs)
-    (λ c. (search needs, search (needs, open-loop)))
-    (λ c. search needs)
-    (λ c κs. search needs)
-    (λ c κs. search (needs, end-near, first-near))
-    (λ c. search needs)
-    (λ c κs. search needs)
-    (λ c κs. (search needs, (search (needs, room-kept), search (needs, body-near, end-near))))
-    (λ c. search needs)
-    (λ c. (search needs, search (needs, open-switch)))
-    (λ c. search needs)
-    (λ c κs. search needs)
-    (λ c κs. search (needs, past-near, end-near))
-    (λ c. search needs)
-    (λ c κs. (search needs, (search (needs, room-kept), search (needs, near-of, end-near))))
-    (λ c κs. (search needs, (search (needs, room-kept), search (needs, near-of, end-near))))
-    (λ c. search needs)
-    (λ c. (search needs, search (needs, open-else)))
-    (λ c. search needs)
-    (λ c. (search needs, search (needs, open-if)))
+    (λ c. (search (needs, end-found), search (needs, opens-once)))

@@ -2,9 +2,9 @@
 -- Assumes nothing.
 use borrow.Author.Needs.{needs}
 use Rattle.blocks.specs.Control.{opOf}
-use Rattle.table.proofs.Jumps.{jump-at, no-jump}
-use Rattle.table.proofs.jump_of.Statement.{statement}
-use Rattle.table.proofs.jump_of.Tie as tie
+use Rattle.rows.proofs.Jumps.{jump-at, no-jump}
+use Rattle.rows.proofs.jump_of.Statement.{statement}
+use Rattle.rows.proofs.jump_of.Tie as tie
 
 pub jump-of-spec : {M : Type 1} → statement M
 unfolding opOf

@@ -1,0 +1,121 @@
+-- What the code finds of the block that an instruction opens.
+-- Assumes nothing.
+use mathlib.Core.Path.{_≡_, refl, sym, _∙_}
+use mathlib.Core.Bool.{Bool, true, false, cond}
+use mathlib.Core.List.{List}
+use mathlib.Core.Logic.{_⊎_, inl, inr, ⊎-elim}
+use Prim.Native.Nat.{ℕ, suc, _+_, _<_, _≤_}
+use native.Mathlib.Omega.{arith}
+use native.Mathlib.Numerals.{add-one}
+use lib.ListN.{length, getD, List·getD-eq-default}
+use Rattle.blocks.specs.Control.{Op, PLAIN, ELSE, ENDIF, BGNLOOP, ENDLOOP, BRK, CONT, DEFAULT, ENDSWITCH, END, UIF, SWITCH, CASE, kindOf, isLabel, opOf}
+use Rattle.blocks.specs.Lists.{Items, nil, loop, switch, size}
+use Rattle.blocks.specs.Nesting.{opens}
+use Rattle.blocks.specs.declared.Targets.{Targets}
+use Rattle.blocks.specs.Table.{firstLabel}
+use Rattle.blocks.proofs.Ops.{by-kind}
+use Rattle.lists.specs.Lists.{opIn, listIn, blockIn}
+use Rattle.lists.proofs.Readers.{past-end, at-none, at-loop, at-switch, at-uif}
+use Rattle.rows.specs.Opened.{pastFirst, firstRow, openedBy, insideOf}
+
+-- ---- `block_at`
+
+loop-or-none : (k : ℕ) → (k ≡ 0x90 → ⊥) → (k ≡ 0x91 → ⊥) → (k ≡ 0x83) ⊎ (opens (opOf k) ≡ false)
+loop-or-none k u s = by-kind (λ o. (k ≡ 0x83) ⊎ (opens o ≡ false)) k on (inr refl)
+  where
+    on : (o : Op) → k ≡ kindOf o → (k ≡ 0x83) ⊎ (opens o ≡ false)
+    on BGNLOOP e = inl e
+    on UIF e = absurd (u e)
+    on SWITCH e = absurd (s e)
+    on PLAIN e = inr refl
+    on ELSE e = inr refl
+    on ENDIF e = inr refl
+    on ENDLOOP e = inr refl
+    on BRK e = inr refl
+    on CONT e = inr refl
+    on DEFAULT e = inr refl
+    on ENDSWITCH e = inr refl
+    on END e = inr refl
+    on CASE e = inr refl
+
+-- The block of instruction n ends before number e.
+module _ (kinds : List ℕ) (n e : ℕ) (ends : e ≡ n + size (blockIn kinds n)) where
+  opened-is : (l : Items) (s j b : ℕ)
+      → blockIn kinds n ≡ l
+      → s ≡ pastFirst n l
+      → j ≡ firstRow (opIn kinds) n l .jump
+      → b ≡ firstRow (opIn kinds) n l .label
+      → record { end = e; second = s; jump = j; label = b } ≡ openedBy (opIn kinds) n (blockIn kinds n)
+  opened-is l s j b block first jump label = rw (ends, block, first, jump, label)
+
+  none-opened : blockIn kinds n ≡ nil → record { end = e; second = e; jump = 0; label = 0 } ≡ openedBy (opIn kinds) n (blockIn kinds n)
+  none-opened block = opened-is nil e 0 0 block (ends ∙ rw block (omega arith)) refl refl
+
+  pub opened-past : length kinds ≤ n → record { end = e; second = e; jump = 0; label = 0 } ≡ openedBy (opIn kinds) n (blockIn kinds n)
+  opened-past h = none-opened (rw (past-end kinds n h))
+
+  module _ (h : n < length kinds) where
+    pub opened-other : (getD kinds n 0 ≡ 0x90 → ⊥)
+        → (getD kinds n 0 ≡ 0x91 → ⊥)
+        → record { end = e; second = e; jump = 0; label = 0 } ≡ openedBy (opIn kinds) n (blockIn kinds n)
+    opened-other u s =
+        ⊎-elim
+        (λ k. opened-is (loop n (listIn kinds (suc n)) nil) e 0 0 (at-loop kinds n h k) (ends ∙ rw (at-loop kinds n h k) (omega arith)) refl refl)
+        (λ o. none-opened (at-none kinds n h (opens (opIn kinds n)) refl o))
+        (loop-or-none (getD kinds n 0) u s)
+
+    pub opened-switch : (l : ℕ)
+        → l ≡ firstLabel (opIn kinds) (listIn kinds (n + 1))
+        → getD kinds n 0 ≡ 0x91
+        → record { end = e; second = e; jump = e; label = l } ≡ openedBy (opIn kinds) n (blockIn kinds n)
+    opened-switch l label k =
+        let s : e ≡ suc n + size (listIn kinds (suc n)) = ends ∙ rw (at-switch kinds n h k) (omega arith) in
+        opened-is (switch n (listIn kinds (suc n)) nil) e e l (at-switch kinds n h k) s s (rw (add-one n) at label)
+
+    pub opened-uif : (p : ℕ)
+        → p ≡ n + 1 + size (listIn kinds (n + 1))
+        → getD kinds n 0 ≡ 0x90
+        → record { end = e; second = p; jump = p; label = 0 } ≡ openedBy (opIn kinds) n (blockIn kinds n)
+    opened-uif p first k =
+        let s : p ≡ suc n + size (listIn kinds (suc n)) = rw (add-one n) at first in
+        at-uif kinds n h (λ l. e ≡ n + size l → record { end = e; second = p; jump = p; label = 0 } ≡ openedBy (opIn kinds) n l) k
+        (λ q other d. rw (d, s)) ends
+
+-- ---- `inside`
+
+-- An arm of kind k.
+pub inside-at : (k kind first end : ℕ) (t r : Targets) → kind ≡ k → r ≡ insideOf (opOf k) first end t → r ≡ insideOf (opOf kind) first end t
+inside-at k kind first end t r e q = rw e q
+
+pub inside-other : (kind first end : ℕ) (t : Targets)
+    → (kind ≡ 0x83 → ⊥)
+    → (kind ≡ 0x91 → ⊥)
+    → record { brk = t .brk; cont = t .cont; after = end } ≡ insideOf (opOf kind) first end t
+inside-other kind first end t l s = by-kind (λ o. record { brk = t .brk; cont = t .cont; after = end } ≡ insideOf o first end t) kind on refl
+  where
+    on : (o : Op) → kind ≡ kindOf o → record { brk = t .brk; cont = t .cont; after = end } ≡ insideOf o first end t
+    on BGNLOOP e = absurd (l e)
+    on SWITCH e = absurd (s e)
+    on UIF e = refl
+    on PLAIN e = refl
+    on ELSE e = refl
+    on ENDIF e = refl
+    on ENDLOOP e = refl
+    on BRK e = refl
+    on CONT e = refl
+    on DEFAULT e = refl
+    on ENDSWITCH e = refl
+    on END e = refl
+    on CASE e = refl
+
+-- ---- `label_of`
+
+pub chosen : (t v : Bool) (r x : ℕ) → t ≡ v → t ≡ true → r ≡ x → r ≡ cond v x 0
+chosen t v r x e k f = rw (sym e ∙ k, f)
+
+pub not-chosen : (t v : Bool) (x : ℕ) → t ≡ v → t ≡ false → 0 ≡ cond v x 0
+not-chosen t v x e k = rw (sym e ∙ k)
+
+pub past-label : (kinds : List ℕ) (n x : ℕ) → length kinds ≤ n → 0 ≡ cond (isLabel (opOf (getD kinds n 0))) x 0
+unfolding opOf
+past-label kinds n x h = rw (List·getD-eq-default kinds 0 h)
