@@ -1,35 +1,25 @@
 // Runs of program files: check, prepare, clear, carry out. Nobody has to check first, and nothing is asked of what is lent.
 use admission::Sizes;
 use admission::admit;
-use blocks::ROW_WORDS;
-use checker::examine;
 use checker::program::Program;
 use execution::Stop;
 use execution::steps::carry_out;
-use format::refusals::WORKING_SHORT;
 use lending::bank_of;
 use lending::clear;
+use preparation::write_table;
 use sources::bank::Bank;
-use table::fill;
 ghost use mathlib.Core.Path.{_≡_};
 ghost use Prim.Native.Nat.{_≤_};
-ghost use Rattle.table.specs.Prepared.{filled};
-ghost use Rattle.runner.specs.Answers.{prepareAnswer, prepareAfter, runAnswer, lent, after, stepsOf};
-ghost use Rattle.runner.specs.Whole.{prepareOf, runOf};
+ghost use Rattle.runner.specs.Answers.{runAnswer, lent, after, stepsOf};
+ghost use Rattle.runner.specs.Whole.{runOf};
 ghost use Rattle.runner.specs.Inner.Admits.{Admits, Came, Near, stopAnswer};
 pub use checker::Verdict;
 pub use checker::check;
 pub use execution::Report;
 pub use format::records::record;
 pub use format::records::record_bounds;
-
-// What preparing answers.
-pub enum Prepared {
-    // The table of so many instructions stands in the working words.
-    Ready(u32),
-    // The number of the refusal, and the byte place.
-    Refused(u8, u32),
-}
+pub use preparation::Prepared;
+pub use preparation::prepare;
 
 // What a run answers.
 pub enum Outcome {
@@ -39,38 +29,6 @@ pub enum Outcome {
     Halted(Report, u32),
     // The number of the refusal, and the byte place.
     Refused(u8, u32),
-}
-
-// Writes the table of a program that the check took to the working words.
-fn write_table(file: &[u8], program: Program, work: &mut [u32])
-    ensures { λ _. ⌜ now (work .exit) ≡ filled (now (file .entry)) (program .start) (program .instructions) (now (work .entry)) ⌝ }
-{
-    fill(
-        file,
-        program.start as usize,
-        program.instructions as usize,
-        work,
-    );
-}
-
-// Checks a file and writes its table to the working words.
-pub fn prepare(file: &[u8], work: &mut [u32]) -> Prepared
-    ensures { λ r. ⌜ prepareAfter (prepareAnswer r) (now (work .exit)) ≡ prepareOf (now (file .entry)) (now (work .entry)) ⌝ }
-{
-    let mut immediates = [0u32; 1024];
-    let checked = examine(file, &mut immediates);
-    let verdict = checked.verdict;
-    let program = checked.program;
-    match verdict {
-        Verdict::Refused(number, place) => Prepared::Refused(number, place),
-        Verdict::Accepted(_) => {
-            if work.len() < ROW_WORDS * program.instructions as usize {
-                return Prepared::Refused(WORKING_SHORT, 0);
-            }
-            write_table(file, program, work);
-            Prepared::Ready(program.instructions)
-        }
-    }
 }
 
 // How a program that was carried out is answered for.
