@@ -1,18 +1,13 @@
 // Runs of program files: check, prepare, clear, carry out. Nobody has to check first, and nothing is asked of what is lent.
 use admission::Sizes;
 use admission::admit;
-use checker::program::Program;
 use execution::Stop;
-use execution::steps::carry_out;
-use lending::bank_of;
-use lending::clear;
-use preparation::write_table;
-use sources::bank::Bank;
+use launch::carry_out_program;
 ghost use mathlib.Core.Path.{_≡_};
 ghost use Prim.Native.Nat.{_≤_};
 ghost use Rattle.runner.specs.Answers.{runAnswer, lent, after, stepsOf};
 ghost use Rattle.runner.specs.Whole.{runOf};
-ghost use Rattle.runner.specs.Inner.Admits.{Admits, Came, Near, stopAnswer};
+ghost use Rattle.runner.specs.Inner.Stops.{Near, stopAnswer};
 pub use checker::Verdict;
 pub use checker::check;
 pub use execution::Report;
@@ -42,42 +37,6 @@ fn answered(stop: Stop) -> Outcome
     }
 }
 
-// Clears the registers and carries out by the rows.
-fn carry_out_cleared(
-    file: &[u8],
-    rows: &[u32],
-    bank: &Bank,
-    registers: &mut [u32],
-    memory: &mut [u32],
-    budget: u32,
-) -> Stop
-    ensures { λ r. ⌜ Came (now (file .entry)) (now (rows .entry)) (now (bank .entry)) (now (registers .entry)) (now (memory .entry)) budget r (now (registers .exit)) (now (memory .exit)) ⌝ }
-{
-    clear(registers);
-    carry_out(file, rows, bank, registers, memory, budget)
-}
-
-// Prepares an admitted program, clears the registers and carries it out.
-fn run_admitted(
-    file: &[u8],
-    program: Program,
-    immediates: &[u32; 1024],
-    inputs: &[u32],
-    constants: &[u32],
-    registers: &mut [u32],
-    work: &mut [u32],
-    memory: &mut [u32],
-    budget: u32,
-) -> Outcome
-    requires { ⌜ Admits program (now immediates) (now file) (now inputs) (now constants) (lent (now registers) (now work) (now memory)) ⌝ }
-    ensures { λ r. ⌜ after (runAnswer r) (lent (now (registers .exit)) (now (work .exit)) (now (memory .exit))) ≡ runOf (now (file .entry)) (now (inputs .entry)) (now (constants .entry)) (lent (now (registers .entry)) (now (work .entry)) (now (memory .entry))) budget ⌝ }
-{
-    let declared = program.declared;
-    let bank = bank_of(declared, immediates, inputs, constants);
-    write_table(file, program, work);
-    answered(carry_out_cleared(file, work, &bank, registers, memory, budget))
-}
-
 // Checks a file, prepares it, clears the registers and carries out its instructions until END or until the budget is spent.
 pub fn run(
     file: &[u8],
@@ -104,7 +63,7 @@ pub fn run(
     let program = admitted.program;
     match verdict {
         Verdict::Refused(number, place) => Outcome::Refused(number, place),
-        Verdict::Accepted(_) => run_admitted(
+        Verdict::Accepted(_) => answered(carry_out_program(
             file,
             program,
             &immediates,
@@ -114,6 +73,6 @@ pub fn run(
             work,
             memory,
             budget,
-        ),
+        )),
     }
 }
