@@ -6,7 +6,8 @@ use mathlib.Core.List.{List}
 use lib.Dec.{eqb}
 use Rattle.format.specs.declared.records.Bounds.{Bounds}
 use Rattle.checker.specs.Check.{Told, follows, breaks}
-use Rattle.runner.specs.Answers.{said, end, halt, unanswered, Lent, Result, Preparation}
+use Rattle.preparation.specs.Preparing.{Preparation}
+use Rattle.runner.specs.Answers.{said, end, halt, unanswered, Lent, Result}
 use Rattle.runner.specs.Answers.{Answer as Library}
 use Rattle.answers.specs.declared.Answer.{Answer}
 use Rattle.answers.specs.declared.Part.{Part}

@@ -5,7 +5,8 @@ use runner::Prepared;
 use runner::Verdict;
 ghost use mathlib.Core.Path.{_≡_};
 ghost use Rattle.checker.specs.Check.{told};
-ghost use Rattle.runner.specs.Answers.{prepareAnswer, runAnswer};
+ghost use Rattle.preparation.specs.Preparing.{prepareAnswer};
+ghost use Rattle.runner.specs.Answers.{runAnswer};
 ghost use Rattle.answers.specs.Words.{words, toldWords, answerOf, partOf};
 
 // Status 0: done, with the number of instructions (check and prepare) or of steps (run) first. 1: halted, with the steps first

@@ -5,7 +5,8 @@ use mathlib.Core.Path.{_≡_, sym, ap, subst}
 use mathlib.Core.List.{List}
 use native.Mathlib.Omega.{arith}
 use Rattle.checker.specs.Check.{Told, follows, breaks}
-use Rattle.runner.specs.Answers.{said, end, halt, unanswered, Lent, Result, Preparation, after, prepareAfter}
+use Rattle.preparation.specs.Preparing.{Preparation, prepareAfter}
+use Rattle.runner.specs.Answers.{said, end, halt, unanswered, Lent, Result, after}
 use Rattle.runner.specs.Answers.{Answer as Library}
 use Rattle.runner.specs.Whole.{runOf}
 use Rattle.runner.proofs.Laws.{Answered, run-answers}

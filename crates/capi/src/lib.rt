@@ -10,8 +10,9 @@ ghost use mathlib.Core.Path.{_≡_};
 ghost use Prim.Native.Nat.{_≤_};
 ghost use Rattle.format.specs.Records.{boundsOf};
 ghost use Rattle.checker.specs.Check.{checkOf, toldOf};
+ghost use Rattle.preparation.specs.Preparing.{prepareOf};
 ghost use Rattle.runner.specs.Answers.{lent};
-ghost use Rattle.runner.specs.Whole.{runOf, prepareOf};
+ghost use Rattle.runner.specs.Whole.{runOf};
 ghost use Rattle.answers.specs.Words.{toldWords, stepsIn, afterPreparing, afterRun, preparationInWords, resultInWords, partOf};
 
 // Whether a file follows the rules.

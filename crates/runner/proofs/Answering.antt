@@ -1,31 +1,28 @@
--- What the functions answer is what the definitions of the whole run and of preparing say, return by return.
+-- What the functions answer is what the definitions of the whole run say, return by return.
 -- Assumes nothing.
 use mathlib.Core.Path.{_≡_, refl, sym, ap, _∙_, subst}
 use mathlib.Core.List.{List, []}
 use Prim.Native.Nat.{ℕ, _-_, _*_, _^_, _<_, _≤_}
 use native.Mathlib.Omega.{arith}
-use borrow.Author.Tests.{lt-ltb, le-ltb, le-leb}
 use lib.ListN.{length, take}
-use Rattle.format.specs.Records.{longest}
-use Rattle.format.specs.Refusals.{workingShort}
 use Rattle.blocks.specs.Run.{mostInstructions}
 use Rattle.blocks.specs.Table.{rowWords}
-use Rattle.table.specs.Prepared.{filled}
 use Rattle.registers.specs.Sets.{isIn}
 use Rattle.checker.specs.declared.Checked.{Checked}
 use Rattle.checker.specs.declared.Verdict.the-variants.{Accepted, Refused}
-use Rattle.checker.specs.declared.program.Program.{Program}
-use Rattle.checker.specs.Check.{accepted, refused, follows, breaks, checkOf, programSeen, wordsAfter, examinedAs, examined}
+use Rattle.checker.specs.Check.{accepted, refused, breaks, programSeen, wordsAfter, examinedAs, examined}
 use Rattle.checker.specs.Findings.{Seen}
 use Rattle.checker.specs.Inner.Held.{outcome, concluded}
 use Rattle.checker.proofs.Examining.{outcome-is, words-are}
 use Rattle.checker.proofs.Followed.{followed}
 use Rattle.destinations.specs.Destinations.{State}
 use Rattle.effects.specs.Effect.{state}
-use Rattle.sources.specs.Bank.{envIn}
+use Rattle.sources.specs.Operands.{wordIn}
 use Rattle.admission.specs.Admission.{admissionOf}
 use Rattle.admission.proofs.Admitting.{Admitted, admitted-is, lent-enough}
-use Rattle.lending.specs.Lent.{bankEnv, cleared, zeroed}
+use Rattle.preparation.specs.Preparing.{preparedIn}
+use Rattle.preparation.proofs.Preparing.{table-made}
+use Rattle.lending.specs.Lent.{bankEnv, cleared}
 use Rattle.lending.proofs.Copies.{zeroed-is}
 use Rattle.lending.proofs.Indirect.{padded-words}
 use Rattle.execution.specs.declared.Report.{Report}
@@ -33,54 +30,14 @@ use Rattle.execution.specs.declared.Stop.{Stop}
 use Rattle.execution.specs.Program.{carriedOut}
 use Rattle.execution.specs.Steps.{reached, byRows}
 use Rattle.execution.specs.Inner.Right.{Right}
-use Rattle.execution.proofs.Demand.{came-read, halts-inside}
+use Rattle.execution.proofs.Demand.{halts-inside, rows-read}
 use Rattle.execution.proofs.Rows.{prepared-right}
+use Rattle.launch.specs.Launched.{Launched}
 use Rattle.runner.specs.declared.Outcome.{Outcome}
-use Rattle.runner.specs.Answers.{Answer, said, runAnswer, stepsOf, Lent, lent, after, prepareAfter}
-use Rattle.runner.specs.Whole.{preparedIn, prepareOf, sizesOf, reported, runAdmitted, runOf}
-use Rattle.runner.specs.Inner.Admits.{Admits, Came, Near, stopAnswer}
+use Rattle.runner.specs.Answers.{Answer, said, runAnswer, stepsOf, Lent, lent, after}
+use Rattle.runner.specs.Whole.{sizesOf, reported, runAdmitted, runOf}
+use Rattle.runner.specs.Inner.Stops.{Near, stopAnswer}
 use Rattle.runner.proofs.Laws.{within-budget}
-
--- The table of a file that the check took is made.
-table-made : (s : Seen) (file work : List ℕ) → checkOf file ≡ accepted s → rowWords * s .instructions ≤ length work → filled file (s .start) (s .instructions) work ≡ preparedIn s file work
-unfolding filled
-table-made s file work ok room =
-    let f = followed file s ok in
-    rw (
-      le-leb (length file) longest (f .0),
-      le-leb (s .start) (length file) (omega (arith, f .1 .starts)),
-      le-leb (s .instructions) mostInstructions (f .1 .most),
-      le-leb (rowWords * s .instructions) (length work) room,
-    )
-
--- ---- Preparing alone
-
-module _ (file : List ℕ) (c : Checked) (words before : List ℕ) (answer : examinedAs c words ≡ examined (checkOf file) before) (work : List ℕ) where
-  found : outcome c words ≡ checkOf file
-  found = outcome-is c words before (checkOf file) answer
-
-  pub prepare-refused : (number place : ℕ) → c .verdict ≡ Refused number place → prepareAfter (breaks number place) work ≡ prepareOf file work
-  unfolding prepareOf
-  prepare-refused number place e =
-      let is : checkOf file ≡ refused number place = sym found ∙ ap (λ v. concluded v (programSeen (c .program) words [])) e in
-      rw is
-
-  module _ (n : ℕ) (e : c .verdict ≡ Accepted n) where
-    is-accepted : checkOf file ≡ accepted (programSeen (c .program) words [])
-    is-accepted = sym found ∙ ap (λ v. concluded v (programSeen (c .program) words [])) e
-
-    pub prepare-short : length work < rowWords * c .program .instructions → prepareAfter (breaks workingShort 0) work ≡ prepareOf file work
-    unfolding prepareOf
-    prepare-short h = rw (is-accepted, lt-ltb (length work) (rowWords * c .program .instructions) h)
-
-    pub prepare-ready : (w : List ℕ)
-        → rowWords * c .program .instructions ≤ length work
-        → w ≡ filled file (c .program .start) (c .program .instructions) work
-        → prepareAfter (follows (c .program .instructions)) w ≡ prepareOf file work
-    unfolding prepareOf
-    prepare-ready w room w-is =
-        let made = table-made (programSeen (c .program) words []) file work is-accepted room in
-        rw (is-accepted, le-ltb (length work) (rowWords * c .program .instructions) room, w-is, made)
 
 -- ---- An admitted program
 
@@ -100,69 +57,7 @@ near-fits stop report next near e =
 pub answered-halted : (stop : Stop) (report : Report) (next : ℕ) → stop ≡ Stop.Halted report next → runAnswer (Outcome.Halted report next) ≡ stopAnswer stop
 answered-halted stop report next e = rw e
 
-pub came-cleared : (file rows bank registers cl memory : List ℕ) (budget : ℕ) (stop : Stop) (r′ m′ : List ℕ) → cl ≡ zeroed registers
-    → reached stop (state r′ m′) ≡ byRows file rows (envIn bank) budget 0 0 (state cl memory)
-    → Came file rows bank registers memory budget stop r′ m′
-came-cleared file rows bank registers cl memory budget stop r′ m′ clear came = record { is = rw clear at came }
-
-module _ (p : Program) (immediates file inputs constants registers work memory : List ℕ)
-    (admits : Admits p immediates file inputs constants (lent registers work memory))
-  where
-    abbrev seen : Seen
-    seen = programSeen p immediates []
-
-    holds : Admitted seen file (sizesOf inputs constants (lent registers work memory))
-    holds = admitted-is file (sizesOf inputs constants (lent registers work memory)) seen (admits .is)
-
-    fits : (1156 ≤ length registers) × (rowWords * p .instructions ≤ length work)
-    fits = lent-enough seen (sizesOf inputs constants (lent registers work memory)) (holds .none-due)
-
-    -- The bank holds what is read, and the table stands in the words w.
-    module _ (bank w : List ℕ)
-        (gathered : envIn bank ≡ bankEnv (isIn (p .declared)) immediates inputs constants)
-        (made : w ≡ filled file (p .start) (p .instructions) work)
-      where
-        w-prepared : w ≡ preparedIn seen file work
-        w-prepared = made ∙ table-made seen file work (holds .follows) (fits .1)
-
-        right : Right seen file w
-        right = rw w-prepared (prepared-right seen file (holds .follows) work (fits .1))
-
-        module _ (budget : ℕ) (stop : Stop) (r′ m′ : List ℕ) (came : Came file w bank registers memory budget stop r′ m′) where
-          carried : reached stop (state r′ m′) ≡ carriedOut seen file inputs constants budget (state (cleared registers) memory)
-          carried =
-              came-read seen file (holds .follows) inputs constants w right bank budget (state (cleared registers) memory) (reached stop (state r′ m′))
-              (gathered ∙ rw (admits .padded))
-              (came .is ∙ ap (λ (l : List ℕ). byRows file w (envIn bank) budget 0 0 (state l memory)) (zeroed-is registers (fits .0)))
-
-          pub near-stop : Near stop
-          near-stop = by stop refl
-            where
-              by : (x : Stop) → stop ≡ x → Near x
-              by (Stop.Ended report) e = tt
-              by (Stop.Halted report next) e =
-                  omega (
-                    arith,
-                    halts-inside seen file (holds .follows) inputs constants budget (state (cleared registers) memory) next (report .steps) (state r′ m′)
-                        (sym carried ∙ ap (λ (x : Stop). reached x (state r′ m′)) e),
-                    followed file seen (holds .follows) .1 .most,
-                  )
-
-          pub carried-out : (r : Outcome) → runAnswer r ≡ stopAnswer stop → after (runAnswer r) (lent r′ w m′) ≡ runOf file inputs constants (lent registers work memory) budget
-          unfolding runOf runAdmitted
-          carried-out r told =
-              ap (λ (a : Answer). after a (lent r′ w m′)) told
-              ∙ reported-is stop w (state r′ m′)
-              ∙ ap (reported w) carried
-              ∙ rw (admits .is, w-prepared)
-
 -- ---- The run
-
--- Every answer of a run is within the budget.
-pub run-within : (file inputs constants : List ℕ) (over left : Lent) (a : Answer) (budget : ℕ) → after a left ≡ runOf file inputs constants over budget → stepsOf a ≤ budget
-run-within file inputs constants over left a budget e =
-    let same : stepsOf a ≡ stepsOf (runOf file inputs constants over budget .answer) = ap (λ x. stepsOf (x .answer)) e in
-    omega (arith, same, within-budget file inputs constants over budget)
 
 module _ (file inputs constants registers work memory : List ℕ) (c : Checked) (words before : List ℕ)
     (answer : examinedAs c words ≡ examined (admissionOf file (sizesOf inputs constants (lent registers work memory))) before)
@@ -179,13 +74,66 @@ module _ (file inputs constants registers work memory : List ℕ) (c : Checked) 
         let is : admissionOf file (sizesOf inputs constants over) ≡ refused number place = sym admission-said ∙ ap (λ v. concluded v (programSeen (c .program) words [])) e in
         rw is
 
-    pub admits-it : (n : ℕ) → c .verdict ≡ Accepted n → Admits (c .program) words file inputs constants over
-    admits-it n e =
-        let is : admissionOf file (sizesOf inputs constants over) ≡ accepted (programSeen (c .program) words []) =
-        sym admission-said ∙ ap (λ v. concluded v (programSeen (c .program) words [])) e in
-        record {
-          is = is;
-          padded =
-              padded-words words (take (4 * c .program .immediates) words) (1024 - length (take (4 * c .program .immediates) words))
-              (words-are c words before (admissionOf file (sizesOf inputs constants over)) answer ∙ ap (λ o. wordsAfter o before) is);
-        }
+    -- The program that was seen is admitted, and came to a stop.
+    module _ (n budget : ℕ) (stop : Stop) (r′ w m′ : List ℕ)
+        (launched : Launched (c .program) words file inputs constants registers work memory budget stop r′ w m′)
+        (e : c .verdict ≡ Accepted n)
+      where
+        abbrev seen : Seen
+        seen = programSeen (c .program) words []
+
+        admits : admissionOf file (sizesOf inputs constants over) ≡ accepted seen
+        admits = sym admission-said ∙ ap (λ v. concluded v (programSeen (c .program) words [])) e
+
+        -- The immediates are the first of the words, and 0 follows them.
+        padded : wordIn words ≡ wordIn (take (4 * c .program .immediates) words)
+        padded =
+            padded-words words (take (4 * c .program .immediates) words) (1024 - length (take (4 * c .program .immediates) words))
+            (words-are c words before (admissionOf file (sizesOf inputs constants over)) answer ∙ ap (λ o. wordsAfter o before) admits)
+
+        holds : Admitted seen file (sizesOf inputs constants over)
+        holds = admitted-is file (sizesOf inputs constants over) seen admits
+
+        fits : (1156 ≤ length registers) × (rowWords * c .program .instructions ≤ length work)
+        fits = lent-enough seen (sizesOf inputs constants over) (holds .none-due)
+
+        w-prepared : w ≡ preparedIn seen file work
+        w-prepared = launched .table ∙ table-made seen file work (holds .follows) (fits .1)
+
+        right : Right seen file w
+        right = rw w-prepared (prepared-right seen file (holds .follows) work (fits .1))
+
+        carried : reached stop (state r′ m′) ≡ carriedOut seen file inputs constants budget (state (cleared registers) memory)
+        carried =
+            launched .came
+            ∙ ap (λ (l : List ℕ). byRows file w (bankEnv (isIn (c .program .declared)) words inputs constants) budget 0 0 (state l memory)) (zeroed-is registers (fits .0))
+            ∙ rw padded
+            (rows-read seen file (holds .follows) inputs constants w right budget (state (cleared registers) memory))
+
+        pub near-stop : Near stop
+        near-stop = by stop refl
+          where
+            by : (x : Stop) → stop ≡ x → Near x
+            by (Stop.Ended report) q = tt
+            by (Stop.Halted report next) q =
+                omega (
+                  arith,
+                  halts-inside seen file (holds .follows) inputs constants budget (state (cleared registers) memory) next (report .steps) (state r′ m′)
+                      (sym carried ∙ ap (λ (x : Stop). reached x (state r′ m′)) q),
+                  followed file seen (holds .follows) .1 .most,
+                )
+
+        module _ (r : Outcome) (told : runAnswer r ≡ stopAnswer stop) where
+          pub carried-out : after (runAnswer r) (lent r′ w m′) ≡ runOf file inputs constants over budget
+          unfolding runOf runAdmitted
+          carried-out =
+              ap (λ (a : Answer). after a (lent r′ w m′)) told
+              ∙ reported-is stop w (state r′ m′)
+              ∙ ap (reported w) carried
+              ∙ rw (admits, w-prepared)
+
+          -- Every answer of a run is within the budget.
+          pub carried-within : stepsOf (runAnswer r) ≤ budget
+          carried-within =
+              let same : stepsOf (runAnswer r) ≡ stepsOf (runOf file inputs constants over budget .answer) = ap (λ x. stepsOf (x .answer)) carried-out in
+              omega (arith, same, within-budget file inputs constants over budget)

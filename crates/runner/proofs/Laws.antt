@@ -18,13 +18,14 @@ use Rattle.destinations.specs.Destinations.{State}
 use Rattle.effects.specs.Effect.{state}
 use Rattle.admission.specs.Admission.{admissionOf}
 use Rattle.admission.proofs.Admitting.{admitted-is}
+use Rattle.preparation.specs.Preparing.{preparedIn}
 use Rattle.lending.specs.Lent.{cleared}
 use Rattle.lending.proofs.Copies.{cleared-past}
 use Rattle.execution.specs.Program.{carriedOut}
 use Rattle.execution.proofs.Demand.{reading-final, reading-inside}
 use Rattle.execution.proofs.Past.{reading-past}
 use Rattle.runner.specs.Answers.{Answer, said, end, halt, unanswered, stepsOf, Lent}
-use Rattle.runner.specs.Whole.{preparedIn, sizesOf, reported, runAdmitted, runOf}
+use Rattle.runner.specs.Whole.{sizesOf, reported, runAdmitted, runOf}
 
 -- A refusal, or a run that ended or halted with a count that is at most the budget; and before which instruction it halted.
 abbrev pub Answered : ℕ → Answer → Type 0

@@ -2,14 +2,9 @@
 -- Assumes nothing.
 use Prim.Native.Nat.{ℕ}
 use mathlib.Core.List.{List}
-use Rattle.checker.specs.Check.{Told, follows, breaks}
+use Rattle.checker.specs.Check.{Told, breaks}
 use Rattle.execution.specs.declared.Report.{Report}
-use Rattle.runner.specs.declared.Prepared.{Prepared}
 use Rattle.runner.specs.declared.Outcome.{Outcome}
-
-abbrev pub prepareAnswer : Prepared → Told
-prepareAnswer (Prepared.Ready instructions) = follows instructions
-prepareAnswer (Prepared.Refused number place) = breaks number place
 
 -- What a run answers: a refusal, as a check says it; the report of a run that ended; the report of one that halted, and its next
 -- instruction's number. No outcome is `unanswered`.
@@ -46,11 +41,3 @@ pub record Result : Type 0 where
 
 abbrev pub after : Answer → Lent → Result
 after answer words = record { answer = answer; lent = words }
-
--- Preparing is lent the working words alone.
-pub record Preparation : Type 0 where
-  pub answer : Told
-  pub work : List ℕ
-
-abbrev pub prepareAfter : Told → List ℕ → Preparation
-prepareAfter answer work = record { answer = answer; work = work }

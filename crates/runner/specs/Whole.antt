@@ -1,41 +1,19 @@
--- The whole run, and preparing alone: the refusals, and then what the block reading gives (document 01, demands 1 to 3).
+-- The whole run: the refusals, and then what the block reading gives (document 01, demands 1 to 3).
 -- Assumes nothing.
 use Prim.Native.Nat.{ℕ}
-use mathlib.Core.Bool.{cond}
 use mathlib.Core.List.{List}
 use lib.ListN.{length}
-use lib.Seq.{sets}
-use Rattle.format.specs.Refusals.{workingShort}
 use Rattle.blocks.specs.Reading.{Reading, out, brk, cont, ended, halted}
-use Rattle.table.specs.Prepared.{tableWords}
-use Rattle.checker.specs.Findings.{Seen}
-use Rattle.checker.specs.Check.{Outcome, accepted, refused, checkOf, follows, breaks}
+use Rattle.checker.specs.Check.{Outcome, accepted, refused, breaks}
 use Rattle.destinations.specs.Destinations.{State}
 use Rattle.effects.specs.Effect.{state}
 use Rattle.admission.specs.declared.Sizes.{Sizes}
-use Rattle.admission.specs.Admission.{workShort, admissionOf}
+use Rattle.admission.specs.Admission.{admissionOf}
+use Rattle.preparation.specs.Preparing.{preparedIn}
 use Rattle.lending.specs.Lent.{cleared}
 use Rattle.execution.specs.Program.{carriedOut}
 use Rattle.execution.specs.Steps.{report}
-use Rattle.runner.specs.Answers.{said, end, halt, unanswered, Lent, lent, Result, after, Preparation, prepareAfter}
-
--- ---- Preparing
-
--- "The prepared table has three words an instruction: byte place, jump, label. .. Words past the last row stay." (01, Blocks)
-abbrev pub preparedIn : Seen → List ℕ → List ℕ → List ℕ
-preparedIn s file work = sets work 0 (tableWords file (s .start) (s .instructions))
-
-abbrev pub prepareAccepted : Outcome → List ℕ → List ℕ → Preparation
-prepareAccepted (refused number place) file work = prepareAfter (breaks number place) work
-prepareAccepted (accepted s) file work =
-    cond (workShort s (length work)) (prepareAfter (breaks workingShort 0) work)
-    (prepareAfter (follows (s .instructions)) (preparedIn s file work))
-
--- "preparing alone: 23 only"
-unfoldable pub prepareOf : List ℕ → List ℕ → Preparation
-prepareOf file work = prepareAccepted (checkOf file) file work
-
--- ---- The run
+use Rattle.runner.specs.Answers.{said, end, halt, unanswered, Lent, lent, Result, after}
 
 -- How many words are lent of each.
 abbrev pub sizesOf : List ℕ → List ℕ → Lent → Sizes

@@ -1,7 +1,7 @@
 -- Each arm puts its case into words.
 -- Assumes nothing.
 use borrow.Author.Needs.{needs}
-use Rattle.runner.specs.Answers.{prepareAnswer}
+use Rattle.preparation.specs.Preparing.{prepareAnswer}
 use Rattle.answers.specs.Words.{toldWords}
 use Rattle.answers.proofs.Arms.{in-arm}
 use Rattle.answers.proofs.prepared.Statement.{statement}

@@ -1,9 +1,9 @@
 -- Preparing answers what its definition says, return by return.
 -- Assumes nothing.
 use borrow.Author.Needs.{needs}
-use Rattle.runner.proofs.Answering.{prepare-refused, prepare-short, prepare-ready}
-use Rattle.runner.proofs.prepare.Statement.{statement}
-use Rattle.runner.proofs.prepare.Tie as tie
+use Rattle.preparation.proofs.Preparing.{prepare-refused, prepare-short, prepare-ready}
+use Rattle.preparation.proofs.prepare.Statement.{statement}
+use Rattle.preparation.proofs.prepare.Tie as tie
 
 pub prepare-spec : {M : Type 1} → statement M
 prepare-spec =

@@ -1,8 +1,8 @@
 -- The table from where the instructions begin, of as many as there are.
 -- Assumes nothing.
 use borrow.Author.Needs.{needs}
-use Rattle.runner.proofs.write_table.Statement.{statement}
-use Rattle.runner.proofs.write_table.Tie as tie
+use Rattle.preparation.proofs.write_table.Statement.{statement}
+use Rattle.preparation.proofs.write_table.Tie as tie
 
 pub write-table-spec : {M : Type 1} → statement M
 write-table-spec =

@@ -1,9 +1,9 @@
 -- The run by the rows from cleared registers.
 -- Assumes nothing.
 use borrow.Author.Needs.{needs}
-use Rattle.runner.proofs.Answering.{came-cleared}
-use Rattle.runner.proofs.carry_out_cleared.Statement.{statement}
-use Rattle.runner.proofs.carry_out_cleared.Tie as tie
+use Rattle.launch.proofs.Launching.{came-cleared}
+use Rattle.launch.proofs.carry_out_cleared.Statement.{statement}
+use Rattle.launch.proofs.carry_out_cleared.Tie as tie
 
 pub carry-out-cleared-spec : {M : Type 1} → statement M
 carry-out-cleared-spec =

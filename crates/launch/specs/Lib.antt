@@ -1,0 +1,2 @@
+pub mod Launched
+pub mod Inner
