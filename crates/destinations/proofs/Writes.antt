@@ -2,7 +2,7 @@
 -- Assumes nothing.
 use Rattle.destinations.specs.Destinations.{firstWord, ifMasked, masked, placed}
 use Rattle.words.specs.Word.{bit, isSet}
-use Prim.Native.Nat.{_*_, _+_, _<_, _≤_, _^_, _%_, ℕ}
+use Prim.Native.Nat.{_*_, _+_, _<_, _≤_, _%_, ℕ}
 use mathlib.Core.Path.{_≡_, ap, sym}
 use mathlib.Core.Bool.{Bool, false, true}
 use mathlib.Core.List.{List}

@@ -1,4 +1,4 @@
--- A step: each arm of the match is the step of the table's row, by the control instruction that the kind is.
+-- A step: what the record's instruction does, and what comes next, as blocks' `step` has them.
 -- Assumes nothing.
 use Rattle.componentwise.specs.Sources.{sourceWord}
 use Rattle.destinations.specs.Destinations.{State}
@@ -6,37 +6,56 @@ use Rattle.effects.specs.Effect.{NONE, effectOf, familyOf, state}
 use Rattle.effects.proofs.Effects.{kindIn, same-family}
 use Rattle.sources.specs.Bank.{envIn, part}
 use Rattle.sources.specs.Operands.{Env, sourcesOf, wordIn}
+use Rattle.sequencer.specs.Labels.{labelsOf}
 use Rattle.machine.specs.Step.{machineOf, recordEffect, stepped, testOf}
-use Rattle.machine.specs.Inner.Parts.{labelsOf}
-use Rattle.machine.proofs.Walks.{walk-labels}
-use Rattle.format.specs.Kinds.{within}
 use Rattle.format.specs.Fields.{destinationAt}
-use Rattle.format.proofs.Ranges.{and-left, and-right, every, in-range}
-use Rattle.blocks.specs.Table.{placeIn, rowIn}
+use Rattle.format.proofs.Ranges.{every, in-range}
+use Rattle.blocks.specs.Table.{Row, placeIn, rowIn}
 use Rattle.blocks.specs.Run.{Step, comesNext, mostInstructions, step, walk}
 use Rattle.blocks.specs.Control.{Machine, Op, PLAIN, ELSE, ENDIF, BGNLOOP, ENDLOOP, BRK, CONT, DEFAULT, ENDSWITCH, END, UIF, SWITCH, CASE, kindOf, opOf}
 use Rattle.blocks.proofs.Ops.{by-kind}
-use Prim.Native.Nat.{_+_, _-_, _<_, _≤_, suc, ℕ}
+use Prim.Native.Nat.{_+_, _-_, _<_, _≤_, suc, zero, ℕ}
 use mathlib.Core.Path.{_∙_, _≡_, ap, refl, sym}
-use mathlib.Core.Logic.{⊎-elim}
-use mathlib.Core.Bool.{Bool, _&&_, not}
+use mathlib.Core.Bool.{Bool}
 use mathlib.Core.List.{List}
 use native.Mathlib.Omega.{arith}
 use native.Mathlib.Numerals.{add-one}
-use native.Mathlib.Nat.{add-zero, eq-or-lt-of-le}
-use borrow.Author.Tests.{ne-eqb}
+use native.Mathlib.Nat.{add-zero}
 use lib.Dec.{T, eqb}
 use lib.ListN.{drop, getD}
 use lib.Seq.{getD-drop}
 use Rattle.format.specs.declared.fields.Destination.{Destination}
 use Rattle.blocks.specs.declared.Next.{Next}
-use Rattle.blocks.specs.declared.Next.the-variants.{At, Ended}
+use Rattle.blocks.specs.declared.Next.the-variants.{At}
+
+-- ---- what comes next looks at the immediates only
+
+module _ (e : Env) (immediates : List ℕ) (same : e .immediates ≡ wordIn immediates) (file : List ℕ) (place : ℕ → ℕ) (T : ℕ → Row) where
+  walk-labels : (f x m other : ℕ) → walk (labelsOf immediates file place) T f x m other ≡ walk (machineOf e file place) T f x m other
+  unfolding walk
+  walk-labels zero x m other = refl
+  walk-labels (suc f) x m other = rw same (simp (walk-labels f))
+
+  pub next-labels : (o : Op) (x n : ℕ) → comesNext (labelsOf immediates file place) T o x n ≡ comesNext (machineOf e file place) T o x n
+  next-labels SWITCH x n = ap At (walk-labels mostInstructions x (T n .label) (T n .jump))
+  next-labels UIF x n = refl
+  next-labels ELSE x n = refl
+  next-labels ENDLOOP x n = refl
+  next-labels CONT x n = refl
+  next-labels BRK x n = refl
+  next-labels END x n = refl
+  next-labels CASE x n = refl
+  next-labels DEFAULT x n = refl
+  next-labels PLAIN x n = refl
+  next-labels ENDIF x n = refl
+  next-labels BGNLOOP x n = refl
+  next-labels ENDSWITCH x n = refl
 
 -- ---- the step
 
--- kinds without effect that do not jump
+-- kinds without effect
 abbrev quiet : ℕ → Bool
-quiet k = eqb (kindIn (familyOf k)) (kindIn NONE) && not (within 0x84 0x86 k)
+quiet k = eqb (kindIn (familyOf k)) (kindIn NONE)
 
 module _ (e : Env) (file rows : List ℕ) (n : ℕ) (r m : List ℕ) where
   abbrev machine : Machine State
@@ -62,57 +81,7 @@ module _ (e : Env) (file rows : List ℕ) (n : ℕ) (r m : List ℕ) where
         let at-place : bytes ≡ drop (placeIn rows n) file = eb ∙ ap (λ (i : ℕ). drop i file) ep in
         ap stepAs (sym h) ∙ rw (← kind-is, ← at-place)
 
-    -- ---- control instructions, which leave the state
-
-    no-effect : familyOf k ≡ NONE → state r m ≡ recordEffect e bytes (state r m)
-    unfolding recordEffect
-    no-effect f = rw (← ek, f)
-
-    control : (o : Op) (q : ℕ) → opOf q ≡ o → familyOf q ≡ NONE → (next : Next) → k ≡ q → next ≡ comesNext machine (rowIn rows) o (testOf e r bytes) n
-        → stepped next r m ≡ here
-    control o q h quiet next i g =
-        let stays : state r m ≡ recordEffect e bytes (state r m) = no-effect (ap familyOf i ∙ quiet) in
-        let same : stepped next r m ≡ stepAs o = cc in
-        same ∙ by-op o (ap opOf i ∙ h)
-
-    pub end-step : k ≡ 0x89 → stepped Ended r m ≡ here
-    unfolding opOf familyOf
-    end-step h = control END 0x89 refl refl Ended h refl
-
-    module _ (j : ℕ) (ej : j ≡ rowIn rows n .jump) where
-      pub else-step : k ≡ 0x81 → stepped (At j) r m ≡ here
-      unfolding opOf familyOf
-      else-step h = control ELSE 0x81 refl refl (At j) h (ap At ej)
-
-      pub jump-step : 0x84 ≤ k → k < 0x87 → stepped (At j) r m ≡ here
-      unfolding opOf familyOf
-      jump-step a b =
-          ⊎-elim (λ h. control ENDLOOP 0x84 refl refl (At j) (sym h) (ap At ej))
-          (λ a. ⊎-elim (λ h. control BRK 0x85 refl refl (At j) (sym h) (ap At ej))
-          (λ a. control CONT 0x86 refl refl (At j) (omega arith) (ap At ej))
-          (eq-or-lt-of-le a))
-          (eq-or-lt-of-le a)
-
-    module _ (o : List (List ℕ)) (eo : o ≡ sourcesOf e r bytes) where
-      ex : sourceWord o 0 0 ≡ testOf e r bytes
-      ex = rw eo
-
-      pub uif-false : (j : ℕ) → k ≡ 0x90 → sourceWord o 0 0 ≡ 0 → j ≡ rowIn rows n .jump → stepped (At j) r m ≡ here
-      unfolding opOf familyOf
-      uif-false j h z ej = control UIF 0x90 refl refl (At j) h (rw (← ex, z, ej))
-
-      pub uif-true : k ≡ 0x90 → (sourceWord o 0 0 ≡ 0 → ⊥) → stepped (At (n + 1)) r m ≡ here
-      unfolding opOf familyOf
-      uif-true h z = control UIF 0x90 refl refl (At (n + 1)) h (rw (← ex, ne-eqb (sourceWord o 0 0) 0 z, add-one n))
-
-      switch-step : (immediates : List ℕ) (l j w : ℕ) → k ≡ 0x91 → l ≡ rowIn rows n .label → j ≡ rowIn rows n .jump
-          → w ≡ walk (labelsOf immediates file (placeIn rows)) (rowIn rows) mostInstructions (sourceWord o 0 0) l j → e .immediates ≡ wordIn immediates → stepped (At w) r m ≡ here
-      unfolding opOf familyOf
-      switch-step immediates l j w h el ej ew same =
-          control SWITCH 0x91 refl refl (At w) h
-          (ap At (ew ∙ (walk-labels e immediates same file (placeIn rows) (rowIn rows) mostInstructions (sourceWord o 0 0) l j ∙ rw (ex, el, ej))))
-
-    -- ---- other kinds
+    -- ---- kinds with an effect
 
     next-is : At (n + 1) ≡ At (suc n)
     next-is = ap At (add-one n)
@@ -143,60 +112,40 @@ module _ (e : Env) (file rows : List ℕ) (n : ℕ) (r m : List ℕ) where
         let whole : stepped (At (n + 1)) q l ≡ stepAs PLAIN = cc next-is in
         whole ∙ by-op PLAIN (plain-kind b)
 
-    falls : (lo hi : ℕ) → T (every quiet lo (hi - lo)) → lo ≤ k → k < hi → (k ≡ 0x81 → ⊥) → (k ≡ 0x89 → ⊥) → (k ≡ 0x90 → ⊥) → (k ≡ 0x91 → ⊥)
-        → stepped (At (n + 1)) r m ≡ here
-    falls lo hi q a b w x y z = each ∙ by-op (opOf k) refl
-      where
-        is-quiet : T (quiet k)
-        is-quiet = in-range quiet lo hi k q a b
+    -- ---- kinds without one
 
-        stays : state r m ≡ recordEffect e bytes (state r m)
-        stays = no-effect (same-family (familyOf k) NONE (and-left (eqb (kindIn (familyOf k)) (kindIn NONE)) (not (within 0x84 0x86 k)) is-quiet))
+    stays : (lo hi : ℕ) → T (every quiet lo (hi - lo)) → lo ≤ k → k < hi → state r m ≡ recordEffect e bytes (state r m)
+    unfolding recordEffect
+    stays lo hi q a b =
+        let none : familyOf k ≡ NONE = same-family (familyOf k) NONE (in-range quiet lo hi k q a b) in
+        rw (← ek, none)
 
-        no-jump : T (not (within 0x84 0x86 k))
-        no-jump = and-right (eqb (kindIn (familyOf k)) (kindIn NONE)) (not (within 0x84 0x86 k)) is-quiet
+    pub low-step : k < 0x10 → stepped (At (n + 1)) r m ≡ here
+    unfolding familyOf
+    low-step b =
+        let same : state r m ≡ recordEffect e bytes (state r m) = stays 0 0x10 tt (omega arith) b in
+        let whole : stepped (At (n + 1)) r m ≡ stepAs PLAIN = cc (next-is, same) in
+        whole ∙ by-op PLAIN (plain-kind (omega arith))
 
-        on : stepped (At (n + 1)) r m ≡ record { next = At (suc n); state = recordEffect e bytes (state r m) }
-        on = cc (next-is, stays)
+    next-step : (o : List (List ℕ)) (immediates : List ℕ) (next : Next) → o ≡ sourcesOf e r bytes → 0x71 ≤ k → k < 0x100 → e .immediates ≡ wordIn immediates
+        → next ≡ comesNext (labelsOf immediates file (placeIn rows)) (rowIn rows) (opOf k) (sourceWord o 0 0) n → stepped next r m ≡ here
+    unfolding familyOf
+    next-step o immediates next eo a b ei en =
+        let same : state r m ≡ recordEffect e bytes (state r m) = stays 0x71 0x100 tt a b in
+        let x-is : sourceWord o 0 0 ≡ testOf e r bytes = rw eo in
+        let goes : next ≡ comesNext machine (rowIn rows) (opOf k) (testOf e r bytes) n =
+        en ∙ next-labels e immediates ei file (placeIn rows) (rowIn rows) (opOf k) (sourceWord o 0 0) n
+        ∙ ap (λ (x : ℕ). comesNext machine (rowIn rows) (opOf k) x n) x-is in
+        let whole : stepped next r m ≡ stepAs (opOf k) = cc (goes, same) in
+        whole ∙ by-op (opOf k) refl
 
-        one : (o : Op) → k ≡ kindOf o → stepped (At (n + 1)) r m ≡ stepAs o
-        one ELSE h = absurd (w h)
-        one ENDIF h = on
-        one BGNLOOP h = on
-        one ENDLOOP h = absurd (rw h at no-jump)
-        one BRK h = absurd (rw h at no-jump)
-        one CONT h = absurd (rw h at no-jump)
-        one DEFAULT h = on
-        one ENDSWITCH h = on
-        one END h = absurd (x h)
-        one UIF h = absurd (y h)
-        one SWITCH h = absurd (z h)
-        one CASE h = on
-        one PLAIN h = on
-
-        each : stepped (At (n + 1)) r m ≡ stepAs (opOf k)
-        each = by-kind (λ o. stepped (At (n + 1)) r m ≡ stepAs o) k one on
-
-    module _ (w : k ≡ 0x81 → ⊥) (x : k ≡ 0x89 → ⊥) (y : k ≡ 0x90 → ⊥) (z : k ≡ 0x91 → ⊥) where
-      pub falls-below : k < 0x10 → stepped (At (n + 1)) r m ≡ here
-      unfolding familyOf
-      falls-below b = falls 0 0x10 tt (omega arith) b w x y z
-
-      pub falls-between : 0x71 ≤ k → k < 0x84 → stepped (At (n + 1)) r m ≡ here
-      unfolding familyOf
-      falls-between a b = falls 0x71 0x84 tt a b w x y z
-
-      pub falls-above : 0x87 ≤ k → k < 0x100 → stepped (At (n + 1)) r m ≡ here
-      unfolding familyOf
-      falls-above a b = falls 0x87 0x100 tt a b w x y z
-
--- a SWITCH, where the immediates are the bank's
+-- what comes next, where the immediates are the bank's
 module _ (bank file rows : List ℕ) (n : ℕ) (r m : List ℕ) (p k : ℕ) (bytes : List ℕ)
     (ep : p ≡ placeIn rows n) (eb : bytes ≡ drop p file) (ek : k ≡ getD bytes 0 0)
     (o : List (List ℕ)) (eo : o ≡ sourcesOf (envIn bank) r bytes)
   where
-    pub switch-by-bank : (immediates : List ℕ) (l j w : ℕ) → k ≡ 0x91 → l ≡ rowIn rows n .label → j ≡ rowIn rows n .jump → immediates ≡ part bank 4224 1024
-        → w ≡ walk (labelsOf immediates file (placeIn rows)) (rowIn rows) mostInstructions (sourceWord o 0 0) l j
-        → stepped (At w) r m ≡ step (machineOf (envIn bank) file (placeIn rows)) (rowIn rows) n (state r m)
-    switch-by-bank immediates l j w h el ej ei ew =
-        switch-step (envIn bank) file rows n r m p k bytes ep eb ek o eo immediates l j w h el ej ew (rw ei)
+    pub next-by-bank : (immediates : List ℕ) (next : Next) → 0x71 ≤ k → k < 0x100 → immediates ≡ part bank 4224 1024
+        → next ≡ comesNext (labelsOf immediates file (placeIn rows)) (rowIn rows) (opOf k) (sourceWord o 0 0) n
+        → stepped next r m ≡ step (machineOf (envIn bank) file (placeIn rows)) (rowIn rows) n (state r m)
+    next-by-bank immediates next a b ei en =
+        next-step (envIn bank) file rows n r m p k bytes ep eb ek o immediates next eo a b (rw ei) en

@@ -1,14 +1,11 @@
 // One step: the instruction's effect and what comes next, by a match on the kind with ranges.
-use crate::labels::after_label;
-use crate::labels::jump_of;
-use crate::labels::label_of;
-use crate::labels::place_of;
 use crate::reading::read_sources;
 use blocks::Next;
-use blocks::control;
 use effects::effect::effect;
 use readers::byte_at;
 use readers::destination_at;
+use sequencer::next_after;
+use sequencer::rows::place_of;
 use sources::bank::Bank;
 use sources::parts;
 ghost use mathlib.Core.Path.{_≡_};
@@ -52,24 +49,7 @@ pub fn step(
             effect(kind, destination_at(bytes, 1), &sources, registers, memory);
             Next::At(after)
         }
-        control::ELSE => Next::At(jump_of(rows, n) as usize),
-        control::ENDLOOP..=control::CONT => Next::At(jump_of(rows, n) as usize),
-        control::END => Next::Ended,
-        control::UIF => {
-            if x == 0 {
-                Next::At(jump_of(rows, n) as usize)
-            } else {
-                Next::At(after)
-            }
-        }
-        control::SWITCH => Next::At(after_label(
-            file,
-            rows,
-            parts::immediates(bank),
-            x,
-            label_of(rows, n),
-            jump_of(rows, n) as usize,
-        )),
+        0x71..=0xff => next_after(file, rows, parts::immediates(bank), n, kind, x),
         _ => Next::At(after),
     }
 }

@@ -1,5 +1,5 @@
--- Each arm is the step of a control instruction, of a data instruction, or of a kind that only counts.
-use Rattle.machine.proofs.Steps.{data-step, else-step, end-step, falls-above, falls-below, falls-between, jump-step, switch-by-bank, uif-false, uif-true}
+-- A data instruction, one that only says what comes next, or a kind that is no instruction's.
+use Rattle.machine.proofs.Steps.{data-step, low-step, next-by-bank}
 use borrow.Author.Needs.{needs}
 use Rattle.machine.proofs.step.step.Statement.{statement}
 use Rattle.machine.proofs.step.step.Tie as tie
@@ -10,26 +10,10 @@ step-spec =
     (tie.spec
     (search needs) (search needs) (search needs) (search needs) (search needs)
     (λ c κs. (search needs, search needs))
+    (search needs) (search needs) (search needs) (search needs) (search needs) (search needs)
     (search needs)
-    (search needs) (search needs) (search needs) (search needs) (search needs) (search needs) (search needs)
-    (search needs) (search needs) (search needs) (search needs) (search needs) (search needs) (search needs)
-    (search needs)
-    (λ c. search (needs, else-step))
-    (search needs)
-    (λ c. search (needs, end-step))
-    (search needs)
-    (λ c. search (needs, uif-false))
-    (search needs)
-    (λ c. search (needs, uif-true))
-    (search needs)
-    (λ c. search (needs, switch-by-bank))
+    (λ c. search (needs, low-step))
     (search needs) (search needs)
     (λ c. search (needs, data-step))
     (search needs)
-    (λ c. search (needs, jump-step))
-    (search needs)
-    (λ c. search (needs, falls-below))
-    (search needs)
-    (λ c. search (needs, falls-between))
-    (search needs)
-    (λ c. search (needs, falls-above)))
+    (λ c. search (needs, next-by-bank)))

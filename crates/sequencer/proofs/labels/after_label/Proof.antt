@@ -3,10 +3,10 @@ use mathlib.Core.Path.{_≡_}
 use borrow.Author.Needs.{needs}
 use Rattle.blocks.specs.Run.{mostInstructions, walk}
 use Rattle.blocks.specs.Table.{placeIn, rowIn}
-use Rattle.machine.specs.Inner.Parts.{labelsOf}
-use Rattle.machine.proofs.Walks.{label-found, label-on, walk-ended, walk-spent}
-use Rattle.machine.proofs.labels.after_label.Statement.{statement}
-use Rattle.machine.proofs.labels.after_label.Tie as tie
+use Rattle.sequencer.specs.Labels.{labelsOf}
+use Rattle.sequencer.proofs.Walks.{label-found, label-on, walk-ended, walk-spent}
+use Rattle.sequencer.proofs.labels.after_label.Statement.{statement}
+use Rattle.sequencer.proofs.labels.after_label.Tie as tie
 
 abbrev Inv-loop : tie.InvT-loop
 Inv-loop file rows immediates x label jump m₀ other₀ left₀ m other left =

@@ -1,8 +1,8 @@
 -- DEFAULT, or another instruction.
-use Rattle.machine.proofs.Walks.{default-found, default-none}
+use Rattle.sequencer.proofs.Walks.{default-found, default-none}
 use borrow.Author.Needs.{needs}
-use Rattle.machine.proofs.labels.after_default.Statement.{statement}
-use Rattle.machine.proofs.labels.after_default.Tie as tie
+use Rattle.sequencer.proofs.labels.after_default.Statement.{statement}
+use Rattle.sequencer.proofs.labels.after_default.Tie as tie
 
 pub after-default-spec : {M : Type 1} → statement M
 after-default-spec =

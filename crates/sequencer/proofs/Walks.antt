@@ -14,9 +14,8 @@ use Rattle.blocks.specs.Table.{Row, placeIn, rowIn}
 use Rattle.blocks.specs.Run.{walk}
 use Rattle.blocks.proofs.Ops.{not-kind}
 use Rattle.destinations.specs.Destinations.{State}
-use Rattle.sources.specs.Operands.{Env, wordIn}
-use Rattle.machine.specs.Step.{machineOf}
-use Rattle.machine.specs.Inner.Parts.{isCaseAt, labelsOf}
+use Rattle.sequencer.specs.Labels.{labelsOf}
+use Rattle.sequencer.specs.Inner.Cases.{isCaseAt}
 
 -- ---- one label
 
@@ -101,10 +100,3 @@ module _ (immediates file rows : List ℕ) (x f m other w found p : ℕ)
     pub label-on : (k o n : ℕ) → found ≡ 0 → k ≡ getD file p 0 → o ≡ cond (is DEFAULT (opOf k)) (suc m) other → n ≡ rowIn rows m .label
         → walk labels (rowIn rows) f x m other ≡ w → walk labels (rowIn rows) (f - 1) x n o ≡ w
     label-on k o n z ek eo en e = walk-on labels (rowIn rows) x f m other w found o n h d at-place z (rw (← ep, ← ek) eo) en e
-
--- only the immediates are looked at
-pub walk-labels : (e : Env) (immediates : List ℕ) → e .immediates ≡ wordIn immediates → (file : List ℕ) (place : ℕ → ℕ) (T : ℕ → Row) (f x m other : ℕ)
-    → walk (labelsOf immediates file place) T f x m other ≡ walk (machineOf e file place) T f x m other
-unfolding walk
-walk-labels e immediates same file place T zero x m other = refl
-walk-labels e immediates same file place T (suc f) x m other = rw same (simp (walk-labels e immediates same file place T f))

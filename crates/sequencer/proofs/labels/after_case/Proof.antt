@@ -1,8 +1,8 @@
 -- The CASE of x, and the two ways to be none.
-use Rattle.machine.proofs.Walks.{case-differs, case-found, case-none}
+use Rattle.sequencer.proofs.Walks.{case-differs, case-found, case-none}
 use borrow.Author.Needs.{needs}
-use Rattle.machine.proofs.labels.after_case.Statement.{statement}
-use Rattle.machine.proofs.labels.after_case.Tie as tie
+use Rattle.sequencer.proofs.labels.after_case.Statement.{statement}
+use Rattle.sequencer.proofs.labels.after_case.Tie as tie
 
 pub after-case-spec : {M : Type 1} → statement M
 after-case-spec =

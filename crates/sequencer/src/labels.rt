@@ -1,9 +1,9 @@
 // Where a SWITCH goes: the walk along its labels, which looks at all CASEs before it takes DEFAULT.
+use crate::rows::label_of;
+use crate::rows::place_of;
 use blocks::MOST_INSTRUCTIONS;
-use blocks::ROW_WORDS;
 use blocks::control::CASE;
 use blocks::control::DEFAULT;
-use destinations::lent::word_at;
 use readers::byte_at;
 use readers::case_word;
 ghost use mathlib.Core.Path.{_≡_};
@@ -13,26 +13,8 @@ ghost use lib.ListN.{getD};
 ghost use Rattle.blocks.specs.Control.{DEFAULT, is, opOf};
 ghost use Rattle.blocks.specs.Table.{placeIn, rowIn};
 ghost use Rattle.blocks.specs.Run.{walk, mostInstructions};
-ghost use Rattle.machine.specs.Inner.Parts.{isCaseAt, labelsOf};
-
-// The words of row n, 0 outside the rows.
-pub fn place_of(rows: &[u32], n: u32) -> u32
-    ensures { λ r. ⌜ r ≡ placeIn (now (rows .entry)) n ⌝ }
-{
-    word_at(rows, ROW_WORDS * n as usize)
-}
-
-pub fn jump_of(rows: &[u32], n: u32) -> u32
-    ensures { λ r. ⌜ r ≡ rowIn (now (rows .entry)) n .jump ⌝ }
-{
-    word_at(rows, ROW_WORDS * n as usize + 1)
-}
-
-pub fn label_of(rows: &[u32], n: u32) -> u32
-    ensures { λ r. ⌜ r ≡ rowIn (now (rows .entry)) n .label ⌝ }
-{
-    word_at(rows, ROW_WORDS * n as usize + 2)
-}
+ghost use Rattle.sequencer.specs.Labels.{labelsOf};
+ghost use Rattle.sequencer.specs.Inner.Cases.{isCaseAt};
 
 // The instruction after m where that is the CASE of x, else 0. Its record begins at a place of the file with this kind.
 fn after_case(file: &[u8], immediates: &[u32], place: usize, kind: u8, x: u32, m: u32) -> usize
