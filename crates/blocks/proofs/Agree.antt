@@ -60,19 +60,19 @@ module _ (op : ℕ → Op) where
   length-rows t nil = refl
   length-rows t (one n rest) = ap suc (length-rows t rest)
   length-rows t (uif n p q rest) =
-      let u : Targets = inUif n p q t in
+      let u : Targets = inUif (suc n + size p + size q) t in
       simp (length-append) (omega (arith, length-rows u p, length-rows u q, length-rows t rest))
-  length-rows t (loop n l rest) = simp (length-append) (omega (arith, length-rows (inLoop n l) l, length-rows t rest))
-  length-rows t (switch n l rest) = simp (length-append) (omega (arith, length-rows (inSwitch n l t) l, length-rows t rest))
+  length-rows t (loop n l rest) = simp (length-append) (omega (arith, length-rows (inLoop (suc n) (suc n + size l)) l, length-rows t rest))
+  length-rows t (switch n l rest) = simp (length-append) (omega (arith, length-rows (inSwitch (suc n + size l) t) l, length-rows t rest))
 
   -- `At n r` is to hold of each instruction n of a list and its row r.
   module _ (At : ℕ → Row → Type 0) where
     abbrev pub Holds : Targets → Items → Type 0
     Holds t nil = Unit {0}
     Holds t (one n rest) = At n (rowOf op (op n) t rest) × Holds t rest
-    Holds t (uif n p q rest) = At n (uifRow n p) × Holds (inUif n p q t) p × Holds (inUif n p q t) q × Holds t rest
-    Holds t (loop n l rest) = At n loopRow × Holds (inLoop n l) l × Holds t rest
-    Holds t (switch n l rest) = At n (switchRow op n l) × Holds (inSwitch n l t) l × Holds t rest
+    Holds t (uif n p q rest) = At n (uifRow n p) × Holds (inUif (suc n + size p + size q) t) p × Holds (inUif (suc n + size p + size q) t) q × Holds t rest
+    Holds t (loop n l rest) = At n loopRow × Holds (inLoop (suc n) (suc n + size l)) l × Holds t rest
+    Holds t (switch n l rest) = At n (switchRow op n l) × Holds (inSwitch (suc n + size l) t) l × Holds t rest
 
     -- The same of the rows R and the numbers from a on.
     abbrev Stand : ℕ → List Row → Type 0
@@ -103,7 +103,7 @@ module _ (op : ℕ → Op) where
         (h .0, holds _ rest (suc n) w t (h .1))
     holds C l a (w-close n o) t h = (h .0, tt)
     holds C l a (w-uif {p = p} {q = q} {rest = rest} n o wp wq w) t h =
-        let u : Targets = inUif n p q t in
+        let u : Targets = inUif (suc n + size p + size q) t in
         let R : List Row = rows op u q ++ rows op t rest in
         let h′ : Stand (suc n + size p) R = stand-after (suc n) u p R (h .1) in (
           h .0,
@@ -112,20 +112,20 @@ module _ (op : ℕ → Op) where
           holds _ rest (suc n + size p + size q) w t (stand-after (suc n + size p) u q (rows op t rest) h′),
         )
     holds C l a (w-uif1 {p = p} {rest = rest} n o wp w) t h =
-        let u : Targets = inUif n p nil t in (
+        let u : Targets = inUif (suc n + size p + size nil) t in (
           h .0,
           holds _ p (suc n) wp u (stand-left (suc n) (rows op u p) (rows op t rest) (h .1)),
           tt,
           holds _ rest (suc n + size p) w t (stand-after (suc n) u p (rows op t rest) (h .1)),
         )
     holds C l a (w-loop {l = body} {rest = rest} n o wl w) t h =
-        let u : Targets = inLoop n body in (
+        let u : Targets = inLoop (suc n) (suc n + size body) in (
           h .0,
           holds _ body (suc n) wl u (stand-left (suc n) (rows op u body) (rows op t rest) (h .1)),
           holds _ rest (suc n + size body) w t (stand-after (suc n) u body (rows op t rest) (h .1)),
         )
     holds C l a (w-switch {l = body} {rest = rest} n o wl w) t h =
-        let u : Targets = inSwitch n body t in (
+        let u : Targets = inSwitch (suc n + size body) t in (
           h .0,
           holds _ body (suc n) wl u (stand-left (suc n) (rows op u body) (rows op t rest) (h .1)),
           holds _ rest (suc n + size body) w t (stand-after (suc n) u body (rows op t rest) (h .1)),

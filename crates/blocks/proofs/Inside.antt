@@ -122,7 +122,7 @@ module _ (N : ℕ) where
 
           -- A SWITCH's list from just past the label that its x comes to.
           abbrev labelled : ℕ → Items → ℕ → S → Reading S
-          labelled n l c s = past M budget l again (caseOf M (M .test n s)) (λ c s. past M budget l again (defaultAt M) out c s) c (M .effect n s)
+          labelled n l c s = past M budget l again (caseOf (opAt M) (M .value) (M .test n s)) (λ c s. past M budget l again (defaultAt (opAt M)) out c s) c (M .effect n s)
 
           abbrev Fine : Items → Type 0
           Fine l =
@@ -159,7 +159,7 @@ module _ (N : ℕ) where
               let f : Fine rest = read-stays rest (h .2) in (
                 charged-stays n (h .0) (λ c s. next (leave (labelled n l c s)) (reads rest))
                     (λ c s p. next-stays (leave (labelled n l c s)) (leave-stays (labelled n l c s)
-                    (fl .1 (caseOf M (M .test n s)) (λ c s. past M budget l again (defaultAt M) out c s) (fl .1 (defaultAt M) out (λ c s p. p)) c (M .effect n s)
+                    (fl .1 (caseOf (opAt M) (M .value) (M .test n s)) (λ c s. past M budget l again (defaultAt (opAt M)) out c s) (fl .1 (defaultAt (opAt M)) out (λ c s p. p)) c (M .effect n s)
                     (keeps n s (h .0) p)))
                     (reads rest) (f .0)),
                 f .1,

@@ -92,7 +92,7 @@ module _ {S : Type 0} (M M′ : Machine S) (T : ℕ → Row) (budget : ℕ) wher
 
   -- One step of it.
   abbrev goes : Op → ℕ → ℕ → S → Reading S
-  goes o c n s = follow (go (suc c)) (suc c) (comesNext M T o (M′ .test n s) n) (M′ .effect n s)
+  goes o c n s = follow (go (suc c)) (suc c) (comesNext (opAt M) (M .value) T o (M′ .test n s) n) (M′ .effect n s)
 
   go-spent : (n : ℕ) (s : S) → go budget n s ≡ halted n budget s
   unfolding go run
@@ -203,7 +203,7 @@ module _ {S : Type 0} (M M′ : Machine S) (T : ℕ → Row) (budget : ℕ) wher
 
     -- From just past the CASE of x, else past DEFAULT, else as `other`.
     abbrev pasts : ℕ → Items → (ℕ → S → Reading S) → ℕ → S → Reading S
-    pasts x l other = past M′ budget l again (caseOf M′ x) (λ c s. past M′ budget l again (defaultAt M′) other c s)
+    pasts x l other = past M′ budget l again (caseOf op (M′ .value) x) (λ c s. past M′ budget l again (defaultAt op) other c s)
 
     -- The run of the list l from number a on is its reading.
     abbrev Reads : Exits → Items → ℕ → Type 0
@@ -218,14 +218,14 @@ module _ {S : Type 0} (M M′ : Machine S) (T : ℕ → Row) (budget : ℕ) wher
         → size l ≤ most
         → 0 < a
         → Sim E c (go c d s) (other c s)
-        → Sim E c (go c (walk M T most x (firstLabel op l) d) s) (pasts x l other c s)
+        → Sim E c (go c (walk (opAt M) (M .value) T most x (firstLabel op l) d) s) (pasts x l other c s)
 
     -- A loop at n with the list l, from its list's start.
     abbrev Rounds : Type 0
     Rounds =
         (E : Exits) (l : Items) (n c : ℕ) (s : S)
         → WF op loopBody l (suc n)
-        → Holds op (RowAt M M′ T) (inLoop n l) l
+        → Holds op (RowAt M M′ T) (inLoop (suc n) (suc n + size l)) l
         → size l ≤ mostInstructions
         → c ≤ budget
         → budget < c + f
@@ -272,11 +272,11 @@ module _ {S : Type 0} (M M′ : Machine S) (T : ℕ → Row) (budget : ℕ) wher
 
     no-default : (l : Items) (other : ℕ → S → Reading S) (c : ℕ) (s : S)
         → hasDefault op l ≡ false
-        → past M′ budget l again (defaultAt M′) other c s ≡ other c s
+        → past M′ budget l again (defaultAt op) other c s ≡ other c s
     unfolding past
     no-default nil other c s e = refl
     no-default (one n rest) other c s e =
-        let h : (defaultAt M′ n ≡ false) × (hasDefault op rest ≡ false) = or-false (defaultAt M′ n) (hasDefault op rest) e in
+        let h : (defaultAt op n ≡ false) × (hasDefault op rest ≡ false) = or-false (defaultAt op n) (hasDefault op rest) e in
         rw (h .0) (no-default rest other c s (h .1))
     no-default (uif n p q rest) other c s e = no-default rest other c s e
     no-default (loop n l rest) other c s e = no-default rest other c s e
@@ -307,28 +307,28 @@ module _ {S : Type 0} (M M′ : Machine S) (T : ℕ → Row) (budget : ℕ) wher
         enter : Sim E c (go c (suc n) s) (reads rest c s)
         enter = weaken (omega arith) (ih c s h hf)
 
-        skip : (most : ℕ) → size rest ≤ most → Sim E c (go c (walk M T most x (firstLabel op rest) d) s) (pasts x rest other c s)
+        skip : (most : ℕ) → size rest ≤ most → Sim E c (go c (walk (opAt M) (M .value) T most x (firstLabel op rest) d) s) (pasts x rest other c s)
         skip most hs = ihp c s x most d other h hf hs (omega arith) m
 
-        default : (λ c s. past M′ budget rest again (defaultAt M′) (reads rest) c s) ≡ reads rest
+        default : (λ c s. past M′ budget rest again (defaultAt op) (reads rest) c s) ≡ reads rest
             → Sim E c
-            (go c (walk M T most x (firstLabel op rest) (suc n)) s)
-            (past M′ budget rest again (caseOf M′ x) (reads rest) c s)
+            (go c (walk (opAt M) (M .value) T most x (firstLabel op rest) (suc n)) s)
+            (past M′ budget rest again (caseOf op (M′ .value) x) (reads rest) c s)
         default u =
             subst
-            (λ r. Sim E c (go c (walk M T most x (firstLabel op rest) (suc n)) s) (past M′ budget rest again (caseOf M′ x) r c s))
+            (λ r. Sim E c (go c (walk (opAt M) (M .value) T most x (firstLabel op rest) (suc n)) s) (past M′ budget rest again (caseOf op (M′ .value) x) r c s))
             u
             (ihp c s x most (suc n) (reads rest) h hf (omega arith) (omega arith) enter)
 
         matched : (v : Bool)
             → Sim E c
-            (go c (cond v (suc n) (walk M T most x (firstLabel op rest) d)) s)
+            (go c (cond v (suc n) (walk (opAt M) (M .value) T most x (firstLabel op rest) d)) s)
             (cond v (λ c s. reads rest c s) (pasts x rest other) c s)
         matched true = enter
         matched false = skip most (omega arith)
 
         on : (o : Op) → op n ≡ o → Fine o C (hasDefault op rest) → T n ≡ rowOf op o t rest
-            → Sim E c (go c (walk M T (suc most) x (firstLabel op (one n rest)) d) s) (pasts x (one n rest) other c s)
+            → Sim E c (go c (walk (opAt M) (M .value) T (suc most) x (firstLabel op (one n rest)) d) s) (pasts x (one n rest) other c s)
         on PLAIN o fine row = rw o (skip (suc most) (omega arith))
         on BRK o fine row = rw o (skip (suc most) (omega arith))
         on CONT o fine row = rw o (skip (suc most) (omega arith))
@@ -363,7 +363,7 @@ module _ {S : Type 0} (M M′ : Machine S) (T : ℕ → Row) (budget : ℕ) wher
         on h′ atEndswitch row = record { runs = rw he; bound = omega arith }
         on h′ atEnd row = record { runs = refl; bound = tt }
 
-    walk-none : (most x d : ℕ) → walk M T most x 0 d ≡ d
+    walk-none : (most x d : ℕ) → walk (opAt M) (M .value) T most x 0 d ≡ d
     unfolding walk
     walk-none zero x d = refl
     walk-none (suc most) x d = refl
@@ -395,7 +395,7 @@ module _ {S : Type 0} (M M′ : Machine S) (T : ℕ → Row) (budget : ℕ) wher
         → op n ≡ BGNLOOP
         → Alike M M′ n
         → WF op loopBody l (suc n)
-        → Holds op (RowAt M M′ T) (inLoop n l) l
+        → Holds op (RowAt M M′ T) (inLoop (suc n) (suc n + size l)) l
         → size l ≤ mostInstructions
         → Reads E rest (suc n + size l)
         → Reads E (loop n l rest) n
@@ -438,7 +438,7 @@ module _ {S : Type 0} (M M′ : Machine S) (T : ℕ → Row) (budget : ℕ) wher
         (one-reads C t e n rest fine (hold .0) (ih .0), one-pasts C t e n rest fine (hold .0) (ih .0) (ih .1))
     sim ok C l a (w-close n o) t e he hold hs = (close-reads C t e n o (omega arith) (hold .0), close-pasts C t e n o)
     sim ok C l a (w-uif {p = p} {q = q} {rest = rest} n o wp wq w) t e he hold hs =
-        let u : Targets = inUif n p q t in
+        let u : Targets = inUif (suc n + size p + size q) t in
         let x : ℕ = suc n + size p + size q in
         let first : Reads (uifExits x (exits C t e)) p (suc n)
         = sim ok (partOf C atElse) p (suc n) wp u (suc n + size p) refl (hold .1) (omega arith) .0 in
@@ -450,7 +450,7 @@ module _ {S : Type 0} (M M′ : Machine S) (T : ℕ → Row) (budget : ℕ) wher
           λ c s y most d other h hf hs′ pos m. ih .1 c s y most d other h hf (omega arith) (omega arith) m,
         )
     sim ok C l a (w-uif1 {p = p} {rest = rest} n o wp w) t e he hold hs =
-        let u : Targets = inUif n p nil t in
+        let u : Targets = inUif (suc n + size p + size nil) t in
         let x : ℕ = suc n + size p in
         let first : Reads (uifExits x (exits C t e)) p (suc n)
         = sim ok (partOf C atEndif) p (suc n) wp u x refl (hold .1) (omega arith) .0 in
@@ -469,7 +469,7 @@ module _ {S : Type 0} (M M′ : Machine S) (T : ℕ → Row) (budget : ℕ) wher
     sim ok C l a (w-switch {l = body} {rest = rest} n o wl w) t e he hold hs =
         let x : ℕ = suc n + size body in
         let inside : Pasts (switchExits x (exits C t e)) body (suc n)
-        = sim ok (switchBody C) body (suc n) wl (inSwitch n body t) x refl (hold .1) (omega arith) .1 in
+        = sim ok (switchBody C) body (suc n) wl (inSwitch (suc n + size body) t) x refl (hold .1) (omega arith) .1 in
         let ih : Reads (exits C t e) rest x × Pasts (exits C t e) rest x
         = sim ok C rest x w t e (omega arith) (hold .2) (omega arith) in (
           switch-reads (exits C t e) n body rest o (hold .0) (omega arith) inside (ih .0),
@@ -482,7 +482,7 @@ module _ {S : Type 0} (M M′ : Machine S) (T : ℕ → Row) (budget : ℕ) wher
   rounds-ok (suc f) E l n c s w hold hs h hf =
       weaken (omega arith)
       (round-sim E (suc n) (suc n + size l) (suc c) _ _ _
-      (sim f (rounds-ok f) loopBody l (suc n) w (inLoop n l) (suc n + size l) refl hold hs .0 c s h (omega arith))
+      (sim f (rounds-ok f) loopBody l (suc n) w (inLoop (suc n) (suc n + size l)) (suc n + size l) refl hold hs .0 c s h (omega arith))
       λ c′ s′ lo hi. weaken (omega arith) (rounds-ok f E l n c′ s′ w hold hs hi (omega arith)))
 
   -- The run and the reading of a whole program, with any bound f on a loop's rounds that is at least the budget.

@@ -62,10 +62,10 @@ pub record Machine (S : Type 0) : Type 0 where
 abbrev pub opAt : {S : Type 0} → Machine S → ℕ → Op
 opAt M n = opOf (M .kind n)
 
-module _ {S : Type 0} (M : Machine S) where
-  -- Whether instruction n is a CASE of the word x, and whether it is DEFAULT.
-  abbrev pub caseOf : ℕ → ℕ → Bool
-  caseOf x n = is CASE (opAt M n) && eqb (M .value n) x
+module _ (op : ℕ → Op) where
+  -- Whether instruction n is a CASE of the word x, by the words of the CASEs, and whether it is DEFAULT.
+  abbrev pub caseOf : (ℕ → ℕ) → ℕ → ℕ → Bool
+  caseOf value x n = is CASE (op n) && eqb (value n) x
 
   abbrev pub defaultAt : ℕ → Bool
-  defaultAt n = is DEFAULT (opAt M n)
+  defaultAt n = is DEFAULT (op n)

@@ -75,7 +75,7 @@ module _ {S : Type 0} (M : Machine S) (budget : ℕ) where
     read (switch n l rest) rounds c s =
         charged n
         (λ c s. next
-        (leave (past l rounds (caseOf M (M .test n s)) (λ c s. past l rounds (defaultAt M) out c s) c (M .effect n s)))
+        (leave (past l rounds (caseOf (opAt M) (M .value) (M .test n s)) (λ c s. past l rounds (defaultAt (opAt M)) out c s) c (M .effect n s)))
         (read rest rounds))
         c
         s

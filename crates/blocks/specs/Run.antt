@@ -24,7 +24,8 @@ module _ {S : Type 0} where
   follow onward c (At n) s = onward n s
   follow onward c Ended s = ended c s
 
-module _ {S : Type 0} (M : Machine S) (T : ℕ → Row) where
+-- What comes next goes by the control instructions, the words of the CASEs and the rows.
+module _ (op : ℕ → Op) (value : ℕ → ℕ) (T : ℕ → Row) where
   -- "SWITCH goes after the CASE equal to its x, else after DEFAULT, else after ENDSWITCH." (01, Blocks)
   -- Along the labels from m: after the CASE of x, else to `other`, which is after the DEFAULT once that was met. At most `f`
   -- labels are looked at.
@@ -32,7 +33,7 @@ module _ {S : Type 0} (M : Machine S) (T : ℕ → Row) where
   walk zero x m other = other
   walk (suc f) x m other =
       cond (eqb m 0) other
-      (cond (caseOf M x m) (suc m) (walk f x (T m .label) (cond (defaultAt M m) (suc m) other)))
+      (cond (caseOf op value x m) (suc m) (walk f x (T m .label) (cond (defaultAt op m) (suc m) other)))
 
   -- "What comes next: UIF with x = 0 goes after its ELSE, or after ENDIF if none. ELSE, reached from above, goes after ENDIF.
   -- ENDLOOP and CONT go after BGNLOOP, CONT that of the innermost enclosing loop. BRK goes after the end of the innermost
@@ -53,10 +54,11 @@ module _ {S : Type 0} (M : Machine S) (T : ℕ → Row) where
   comesNext BGNLOOP x n = At (suc n)
   comesNext ENDSWITCH x n = At (suc n)
 
+module _ {S : Type 0} (M : Machine S) (T : ℕ → Row) where
   -- One step at instruction n.
   abbrev pub step : ℕ → S → Step S
   step n s = record {
-    next = comesNext (opAt M n) (M .test n s) n;
+    next = comesNext (opAt M) (M .value) T (opAt M n) (M .test n s) n;
     state = M .effect n s;
   }
 

@@ -22,15 +22,15 @@ row jump label = record { jump = jump; label = label }
 abbrev pub nowhere : Targets
 nowhere = record { brk = 0; cont = 0; after = 0 }
 
--- In the lists of a UIF, a loop and a SWITCH at n.
-abbrev pub inUif : ℕ → Items → Items → Targets → Targets
-inUif n p q t = record { brk = t .brk; cont = t .cont; after = suc n + size p + size q }
+-- In the lists of a UIF, a loop and a SWITCH, by the instruction after the block and the first one of the loop's list.
+abbrev pub inUif : ℕ → Targets → Targets
+inUif after t = record { brk = t .brk; cont = t .cont; after = after }
 
-abbrev pub inLoop : ℕ → Items → Targets
-inLoop n l = record { brk = suc n + size l; cont = suc n; after = 0 }
+abbrev pub inLoop : ℕ → ℕ → Targets
+inLoop first after = record { brk = after; cont = first; after = 0 }
 
-abbrev pub inSwitch : ℕ → Items → Targets → Targets
-inSwitch n l t = record { brk = suc n + size l; cont = t .cont; after = 0 }
+abbrev pub inSwitch : ℕ → Targets → Targets
+inSwitch after t = record { brk = after; cont = t .cont; after = 0 }
 
 -- "Jump, as instruction numbers: UIF its false case; ELSE, ENDLOOP, CONT, BRK as above; SWITCH the one after ENDSWITCH. Label:
 -- SWITCH its first label; CASE and DEFAULT the next label of their SWITCH, 0 for none. All else 0." (01, Blocks)
@@ -77,9 +77,9 @@ module _ (op : ℕ → Op) where
   unfoldable pub rows : Targets → Items → List Row
   rows t nil = []
   rows t (one n rest) = rowOf (op n) t rest ∷ rows t rest
-  rows t (uif n p q rest) = uifRow n p ∷ (rows (inUif n p q t) p ++ (rows (inUif n p q t) q ++ rows t rest))
-  rows t (loop n l rest) = loopRow ∷ (rows (inLoop n l) l ++ rows t rest)
-  rows t (switch n l rest) = switchRow n l ∷ (rows (inSwitch n l t) l ++ rows t rest)
+  rows t (uif n p q rest) = uifRow n p ∷ (rows (inUif (suc n + size p + size q) t) p ++ (rows (inUif (suc n + size p + size q) t) q ++ rows t rest))
+  rows t (loop n l rest) = loopRow ∷ (rows (inLoop (suc n) (suc n + size l)) l ++ rows t rest)
+  rows t (switch n l rest) = switchRow n l ∷ (rows (inSwitch (suc n + size l) t) l ++ rows t rest)
 
   unfoldable pub table : Items → List Row
   table l = rows nowhere l

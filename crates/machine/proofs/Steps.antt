@@ -6,13 +6,13 @@ use Rattle.effects.specs.Effect.{NONE, effectOf, familyOf, state}
 use Rattle.effects.proofs.Effects.{kindIn, same-family}
 use Rattle.sources.specs.Bank.{envIn, part}
 use Rattle.sources.specs.Operands.{Env, sourcesOf, wordIn}
-use Rattle.sequencer.specs.Labels.{labelsOf}
+use Rattle.sequencer.specs.Labels.{opsOf, casesOf}
 use Rattle.machine.specs.Step.{machineOf, recordEffect, stepped, testOf}
-use Rattle.format.specs.Fields.{destinationAt}
+use Rattle.format.specs.Fields.{caseWord, destinationAt}
 use Rattle.format.proofs.Ranges.{every, in-range}
-use Rattle.blocks.specs.Table.{Row, placeIn, rowIn}
-use Rattle.blocks.specs.Run.{Step, comesNext, mostInstructions, step, walk}
-use Rattle.blocks.specs.Control.{Machine, Op, PLAIN, ELSE, ENDIF, BGNLOOP, ENDLOOP, BRK, CONT, DEFAULT, ENDSWITCH, END, UIF, SWITCH, CASE, kindOf, opOf}
+use Rattle.blocks.specs.Table.{placeIn, rowIn}
+use Rattle.blocks.specs.Run.{Step, comesNext, step}
+use Rattle.blocks.specs.Control.{Machine, Op, PLAIN, ELSE, ENDIF, BGNLOOP, ENDLOOP, BRK, CONT, DEFAULT, ENDSWITCH, END, UIF, SWITCH, CASE, kindOf, opAt, opOf}
 use Rattle.blocks.proofs.Ops.{by-kind}
 use Prim.Native.Nat.{_+_, _-_, _<_, _≤_, suc, zero, ℕ}
 use mathlib.Core.Path.{_∙_, _≡_, ap, refl, sym}
@@ -27,29 +27,6 @@ use lib.Seq.{getD-drop}
 use Rattle.format.specs.declared.fields.Destination.{Destination}
 use Rattle.blocks.specs.declared.Next.{Next}
 use Rattle.blocks.specs.declared.Next.the-variants.{At}
-
--- ---- what comes next looks at the immediates only
-
-module _ (e : Env) (immediates : List ℕ) (same : e .immediates ≡ wordIn immediates) (file : List ℕ) (place : ℕ → ℕ) (T : ℕ → Row) where
-  walk-labels : (f x m other : ℕ) → walk (labelsOf immediates file place) T f x m other ≡ walk (machineOf e file place) T f x m other
-  unfolding walk
-  walk-labels zero x m other = refl
-  walk-labels (suc f) x m other = rw same (simp (walk-labels f))
-
-  pub next-labels : (o : Op) (x n : ℕ) → comesNext (labelsOf immediates file place) T o x n ≡ comesNext (machineOf e file place) T o x n
-  next-labels SWITCH x n = ap At (walk-labels mostInstructions x (T n .label) (T n .jump))
-  next-labels UIF x n = refl
-  next-labels ELSE x n = refl
-  next-labels ENDLOOP x n = refl
-  next-labels CONT x n = refl
-  next-labels BRK x n = refl
-  next-labels END x n = refl
-  next-labels CASE x n = refl
-  next-labels DEFAULT x n = refl
-  next-labels PLAIN x n = refl
-  next-labels ENDIF x n = refl
-  next-labels BGNLOOP x n = refl
-  next-labels ENDSWITCH x n = refl
 
 -- ---- the step
 
@@ -69,7 +46,7 @@ module _ (e : Env) (file rows : List ℕ) (n : ℕ) (r m : List ℕ) where
     abbrev stepAs : Op → Step State
     stepAs o =
         record {
-          next = comesNext machine (rowIn rows) o (testOf e r bytes) n;
+          next = comesNext (opAt machine) (machine .value) (rowIn rows) o (testOf e r bytes) n;
           state = recordEffect e bytes (state r m);
         }
 
@@ -127,15 +104,20 @@ module _ (e : Env) (file rows : List ℕ) (n : ℕ) (r m : List ℕ) where
         let whole : stepped (At (n + 1)) r m ≡ stepAs PLAIN = cc (next-is, same) in
         whole ∙ by-op PLAIN (plain-kind (omega arith))
 
+    -- the words of CASEs are the immediates' that the machine reads
+    values-are : (immediates : List ℕ) → e .immediates ≡ wordIn immediates → casesOf immediates file (placeIn rows) ≡ machine .value
+    unfolding caseWord
+    values-are immediates ei = rw ei
+
     next-step : (o : List (List ℕ)) (immediates : List ℕ) (next : Next) → o ≡ sourcesOf e r bytes → 0x71 ≤ k → k < 0x100 → e .immediates ≡ wordIn immediates
-        → next ≡ comesNext (labelsOf immediates file (placeIn rows)) (rowIn rows) (opOf k) (sourceWord o 0 0) n → stepped next r m ≡ here
+        → next ≡ comesNext (opsOf file (placeIn rows)) (casesOf immediates file (placeIn rows)) (rowIn rows) (opOf k) (sourceWord o 0 0) n → stepped next r m ≡ here
     unfolding familyOf
     next-step o immediates next eo a b ei en =
         let same : state r m ≡ recordEffect e bytes (state r m) = stays 0x71 0x100 tt a b in
         let x-is : sourceWord o 0 0 ≡ testOf e r bytes = rw eo in
-        let goes : next ≡ comesNext machine (rowIn rows) (opOf k) (testOf e r bytes) n =
-        en ∙ next-labels e immediates ei file (placeIn rows) (rowIn rows) (opOf k) (sourceWord o 0 0) n
-        ∙ ap (λ (x : ℕ). comesNext machine (rowIn rows) (opOf k) x n) x-is in
+        let goes : next ≡ comesNext (opAt machine) (machine .value) (rowIn rows) (opOf k) (testOf e r bytes) n =
+        en ∙ ap (λ (v : ℕ → ℕ). comesNext (opAt machine) v (rowIn rows) (opOf k) (sourceWord o 0 0) n) (values-are immediates ei)
+        ∙ ap (λ (x : ℕ). comesNext (opAt machine) (machine .value) (rowIn rows) (opOf k) x n) x-is in
         let whole : stepped next r m ≡ stepAs (opOf k) = cc (goes, same) in
         whole ∙ by-op (opOf k) refl
 
@@ -145,7 +127,7 @@ module _ (bank file rows : List ℕ) (n : ℕ) (r m : List ℕ) (p k : ℕ) (byt
     (o : List (List ℕ)) (eo : o ≡ sourcesOf (envIn bank) r bytes)
   where
     pub next-by-bank : (immediates : List ℕ) (next : Next) → 0x71 ≤ k → k < 0x100 → immediates ≡ part bank 4224 1024
-        → next ≡ comesNext (labelsOf immediates file (placeIn rows)) (rowIn rows) (opOf k) (sourceWord o 0 0) n
+        → next ≡ comesNext (opsOf file (placeIn rows)) (casesOf immediates file (placeIn rows)) (rowIn rows) (opOf k) (sourceWord o 0 0) n
         → stepped next r m ≡ step (machineOf (envIn bank) file (placeIn rows)) (rowIn rows) n (state r m)
     next-by-bank immediates next a b ei en =
         next-step (envIn bank) file rows n r m p k bytes ep eb ek o immediates next eo a b (rw ei) en

@@ -12,8 +12,8 @@ use Rattle.blocks.specs.Control.{Op, PLAIN, ELSE, ENDIF, BGNLOOP, ENDLOOP, BRK,
 use Rattle.blocks.specs.Lists.{Items, nil, loop, switch, size}
 use Rattle.blocks.specs.Nesting.{opens}
 use Rattle.blocks.specs.declared.Targets.{Targets}
-use Rattle.blocks.specs.Table.{firstLabel}
-use Rattle.blocks.proofs.Ops.{by-kind}
+use Rattle.blocks.specs.Table.{firstLabel, inUif, inLoop, inSwitch}
+use Rattle.blocks.proofs.Ops.{by-kind, not-kind}
 use Rattle.lists.specs.Lists.{opIn, listIn, blockIn}
 use Rattle.lists.proofs.Readers.{past-end, at-none, at-loop, at-switch, at-uif}
 use Rattle.rows.specs.Opened.{pastFirst, firstRow, openedBy, insideOf}
@@ -83,30 +83,17 @@ module _ (kinds : List ℕ) (n e : ℕ) (ends : e ≡ n + size (blockIn kinds n)
 
 -- ---- `inside`
 
--- An arm of kind k.
-pub inside-at : (k kind first end : ℕ) (t r : Targets) → kind ≡ k → r ≡ insideOf (opOf k) first end t → r ≡ insideOf (opOf kind) first end t
-inside-at k kind first end t r e q = rw e q
+module _ (kind first end : ℕ) (t r : Targets) where
+  pub inside-loop : kind ≡ 0x83 → r ≡ inLoop first end → r ≡ insideOf (opOf kind) first end t
+  unfolding opOf
+  inside-loop k e = rw k e
 
-pub inside-other : (kind first end : ℕ) (t : Targets)
-    → (kind ≡ 0x83 → ⊥)
-    → (kind ≡ 0x91 → ⊥)
-    → record { brk = t .brk; cont = t .cont; after = end } ≡ insideOf (opOf kind) first end t
-inside-other kind first end t l s = by-kind (λ o. record { brk = t .brk; cont = t .cont; after = end } ≡ insideOf o first end t) kind on refl
-  where
-    on : (o : Op) → kind ≡ kindOf o → record { brk = t .brk; cont = t .cont; after = end } ≡ insideOf o first end t
-    on BGNLOOP e = absurd (l e)
-    on SWITCH e = absurd (s e)
-    on UIF e = refl
-    on PLAIN e = refl
-    on ELSE e = refl
-    on ENDIF e = refl
-    on ENDLOOP e = refl
-    on BRK e = refl
-    on CONT e = refl
-    on DEFAULT e = refl
-    on ENDSWITCH e = refl
-    on END e = refl
-    on CASE e = refl
+  pub inside-switch : kind ≡ 0x91 → r ≡ inSwitch end t → r ≡ insideOf (opOf kind) first end t
+  unfolding opOf
+  inside-switch k e = rw k e
+
+  pub inside-other : (kind ≡ 0x83 → ⊥) → (kind ≡ 0x91 → ⊥) → r ≡ inUif end t → r ≡ insideOf (opOf kind) first end t
+  inside-other l s e = rw (not-kind BGNLOOP kind refl l, not-kind SWITCH kind refl s) e
 
 -- ---- `label_of`
 

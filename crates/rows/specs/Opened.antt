@@ -1,10 +1,11 @@
 -- The block that an instruction opens: where its lists are, the instruction's row, and where the instructions of its lists go.
 -- Assumes nothing.
 use Prim.Native.Nat.{ℕ, suc, _+_}
-use Rattle.blocks.specs.Control.{Op, PLAIN, ELSE, ENDIF, BGNLOOP, ENDLOOP, BRK, CONT, DEFAULT, ENDSWITCH, END, UIF, SWITCH, CASE}
+use mathlib.Core.Bool.{cond}
+use Rattle.blocks.specs.Control.{Op, BGNLOOP, SWITCH, is}
 use Rattle.blocks.specs.Lists.{Items, nil, one, uif, loop, switch, size}
 use Rattle.blocks.specs.declared.Targets.{Targets}
-use Rattle.blocks.specs.Table.{Row, row, uifRow, loopRow, switchRow}
+use Rattle.blocks.specs.Table.{Row, row, inUif, inLoop, inSwitch, uifRow, loopRow, switchRow}
 use Rattle.rows.specs.declared.Opened.{Opened}
 
 -- The number past the first list of a block at n.
@@ -28,19 +29,6 @@ module _ (op : ℕ → Op) where
   abbrev pub openedBy : ℕ → Items → Opened
   openedBy n l = record { end = n + size l; second = pastFirst n l; jump = firstRow n l .jump; label = firstRow n l .label }
 
--- The targets in the lists of a block, the first of which starts at instruction `first`, and which ends before `end`: `inLoop`,
--- `inSwitch` and `inUif` of blocks' Table by these numbers.
+-- The targets in the lists of a block, the first of which starts at instruction `first`, and which ends before `end`.
 abbrev pub insideOf : Op → ℕ → ℕ → Targets → Targets
-insideOf BGNLOOP first end t = record { brk = end; cont = first; after = 0 }
-insideOf SWITCH first end t = record { brk = end; cont = t .cont; after = 0 }
-insideOf UIF first end t = record { brk = t .brk; cont = t .cont; after = end }
-insideOf PLAIN first end t = record { brk = t .brk; cont = t .cont; after = end }
-insideOf ELSE first end t = record { brk = t .brk; cont = t .cont; after = end }
-insideOf ENDIF first end t = record { brk = t .brk; cont = t .cont; after = end }
-insideOf ENDLOOP first end t = record { brk = t .brk; cont = t .cont; after = end }
-insideOf BRK first end t = record { brk = t .brk; cont = t .cont; after = end }
-insideOf CONT first end t = record { brk = t .brk; cont = t .cont; after = end }
-insideOf DEFAULT first end t = record { brk = t .brk; cont = t .cont; after = end }
-insideOf ENDSWITCH first end t = record { brk = t .brk; cont = t .cont; after = end }
-insideOf END first end t = record { brk = t .brk; cont = t .cont; after = end }
-insideOf CASE first end t = record { brk = t .brk; cont = t .cont; after = end }
+insideOf o first end t = cond (is BGNLOOP o) (inLoop first end) (cond (is SWITCH o) (inSwitch end t) (inUif end t))

@@ -7,17 +7,16 @@ use native.Mathlib.Omega.{arith}
 use native.Mathlib.Numerals.{add-one}
 use native.Mathlib.Nat.{eq-or-lt-of-le}
 use borrow.Author.Tests.{ne-eqb}
-use Rattle.blocks.specs.Control.{Machine, Op, PLAIN, ELSE, ENDIF, BGNLOOP, ENDLOOP, BRK, CONT, DEFAULT, ENDSWITCH, END, UIF, SWITCH, CASE, kindOf, opOf}
+use Rattle.blocks.specs.Control.{Op, PLAIN, ELSE, ENDIF, BGNLOOP, ENDLOOP, BRK, CONT, DEFAULT, ENDSWITCH, END, UIF, SWITCH, CASE, kindOf, opOf}
 use Rattle.blocks.specs.Table.{Row}
 use Rattle.blocks.specs.Run.{comesNext, mostInstructions, walk}
 use Rattle.blocks.specs.declared.Next.{Next}
 use Rattle.blocks.specs.declared.Next.the-variants.{At, Ended}
 use Rattle.blocks.proofs.Ops.{by-kind}
-use Rattle.destinations.specs.Destinations.{State}
 
-module _ (M : Machine State) (T : ℕ → Row) (k x n : ℕ) where
+module _ (op : ℕ → Op) (value : ℕ → ℕ) (T : ℕ → Row) (k x n : ℕ) where
   abbrev here : Next
-  here = comesNext M T (opOf k) x n
+  here = comesNext op value T (opOf k) x n
 
   pub end-next : k ≡ 0x89 → Ended ≡ here
   unfolding opOf
@@ -41,7 +40,7 @@ module _ (M : Machine State) (T : ℕ → Row) (k x n : ℕ) where
     unfolding opOf
     uif-false h z = rw (h, z) (ap At ej)
 
-    pub switch-next : (l w : ℕ) → k ≡ 0x91 → l ≡ T n .label → w ≡ walk M T mostInstructions x l j → At w ≡ here
+    pub switch-next : (l w : ℕ) → k ≡ 0x91 → l ≡ T n .label → w ≡ walk op value T mostInstructions x l j → At w ≡ here
     unfolding opOf
     switch-next l w h el ew = rw (h, ← el, ← ej) (ap At ew)
 
@@ -50,9 +49,9 @@ module _ (M : Machine State) (T : ℕ → Row) (k x n : ℕ) where
   uif-true h z = rw (h, ne-eqb x 0 z) (ap At (add-one n))
 
   falls : (0x84 ≤ k → k < 0x87 → ⊥) → (k ≡ 0x81 → ⊥) → (k ≡ 0x89 → ⊥) → (k ≡ 0x90 → ⊥) → (k ≡ 0x91 → ⊥) → At (n + 1) ≡ here
-  falls q w v y z = by-kind (λ o. At (n + 1) ≡ comesNext M T o x n) k one (ap At (add-one n))
+  falls q w v y z = by-kind (λ o. At (n + 1) ≡ comesNext op value T o x n) k one (ap At (add-one n))
     where
-      one : (o : Op) → k ≡ kindOf o → At (n + 1) ≡ comesNext M T o x n
+      one : (o : Op) → k ≡ kindOf o → At (n + 1) ≡ comesNext op value T o x n
       one ELSE h = absurd (w h)
       one ENDIF h = ap At (add-one n)
       one BGNLOOP h = ap At (add-one n)

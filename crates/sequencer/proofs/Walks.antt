@@ -9,12 +9,11 @@ use native.Mathlib.Numerals.{add-one}
 use borrow.Author.Tests.{eq-eqb, ne-eqb}
 use lib.ListN.{getD}
 use Rattle.format.specs.Fields.{caseWord}
-use Rattle.blocks.specs.Control.{Machine, CASE, DEFAULT, caseOf, defaultAt, is, opOf}
+use Rattle.blocks.specs.Control.{Op, CASE, DEFAULT, caseOf, defaultAt, is, opOf}
 use Rattle.blocks.specs.Table.{Row, placeIn, rowIn}
 use Rattle.blocks.specs.Run.{walk}
 use Rattle.blocks.proofs.Ops.{not-kind}
-use Rattle.destinations.specs.Destinations.{State}
-use Rattle.sequencer.specs.Labels.{labelsOf}
+use Rattle.sequencer.specs.Labels.{opsOf, casesOf}
 use Rattle.sequencer.specs.Inner.Cases.{isCaseAt}
 
 -- ---- one label
@@ -49,36 +48,36 @@ module _ (k m other : ℕ) where
 
 -- ---- the walk
 
-module _ (M : Machine State) (T : ℕ → Row) (x : ℕ) where
-  pub walk-spent : (f m other w : ℕ) → f ≤ 0 → walk M T f x m other ≡ w → other ≡ w
+module _ (op : ℕ → Op) (value : ℕ → ℕ) (T : ℕ → Row) (x : ℕ) where
+  pub walk-spent : (f m other w : ℕ) → f ≤ 0 → walk op value T f x m other ≡ w → other ≡ w
   unfolding walk
   walk-spent zero m other w h e = e
   walk-spent (suc f) m other w h e = absurd (omega arith)
 
-  pub walk-ended : (f m other w : ℕ) → m ≡ 0 → walk M T f x m other ≡ w → other ≡ w
+  pub walk-ended : (f m other w : ℕ) → m ≡ 0 → walk op value T f x m other ≡ w → other ≡ w
   unfolding walk
   walk-ended zero m other w h e = e
   walk-ended (suc f) m other w h e = rw h at e
 
-  walk-found : (f m other w found : ℕ) → 0 < f → (m ≡ 0 → ⊥) → found ≡ cond (caseOf M x m) (suc m) 0 → (found ≡ 0 → ⊥) → walk M T f x m other ≡ w → found ≡ w
+  walk-found : (f m other w found : ℕ) → 0 < f → (m ≡ 0 → ⊥) → found ≡ cond (caseOf op value x m) (suc m) 0 → (found ≡ 0 → ⊥) → walk op value T f x m other ≡ w → found ≡ w
   unfolding walk
   walk-found zero m other w found h d ef n e = absurd (omega arith)
-  walk-found (suc f) m other w found h d ef n e = on (caseOf M x m) refl
+  walk-found (suc f) m other w found h d ef n e = on (caseOf op value x m) refl
     where
-      on : (v : Bool) → caseOf M x m ≡ v → found ≡ w
+      on : (v : Bool) → caseOf op value x m ≡ v → found ≡ w
       on true k = ef ∙ (rw k (rw (ne-eqb m 0 d, k) at e))
       on false k = absurd (n (ef ∙ rw k))
 
-  walk-on : (f m other w found o n : ℕ) → 0 < f → (m ≡ 0 → ⊥) → found ≡ cond (caseOf M x m) (suc m) 0 → found ≡ 0
-      → o ≡ cond (defaultAt M m) (suc m) other → n ≡ T m .label → walk M T f x m other ≡ w → walk M T (f - 1) x n o ≡ w
+  walk-on : (f m other w found o n : ℕ) → 0 < f → (m ≡ 0 → ⊥) → found ≡ cond (caseOf op value x m) (suc m) 0 → found ≡ 0
+      → o ≡ cond (defaultAt op m) (suc m) other → n ≡ T m .label → walk op value T f x m other ≡ w → walk op value T (f - 1) x n o ≡ w
   unfolding walk
   walk-on zero m other w found o n h d ef z eo en e = absurd (omega arith)
-  walk-on (suc f) m other w found o n h d ef z eo en e = on (caseOf M x m) refl
+  walk-on (suc f) m other w found o n h d ef z eo en e = on (caseOf op value x m) refl
     where
       one-less : suc f - 1 ≡ f
       one-less = omega arith
 
-      on : (v : Bool) → caseOf M x m ≡ v → walk M T (suc f - 1) x n o ≡ w
+      on : (v : Bool) → caseOf op value x m ≡ v → walk op value T (suc f - 1) x n o ≡ w
       on true k = let y : suc m ≡ 0 = rw k at (sym ef ∙ z) in absurd (omega arith)
       on false k = rw (one-less, eo, en) (rw (ne-eqb m 0 d, k) at e)
 
@@ -87,16 +86,19 @@ module _ (immediates file rows : List ℕ) (x f m other w found p : ℕ)
     (h : 0 < f) (d : m ≡ 0 → ⊥) (ep : p ≡ placeIn rows m)
     (ef : found ≡ cond (isCaseAt immediates file p x) (suc m) 0)
   where
-    abbrev labels : Machine State
-    labels = labelsOf immediates file (placeIn rows)
+    abbrev op : ℕ → Op
+    op = opsOf file (placeIn rows)
 
-    at-place : found ≡ cond (caseOf labels x m) (suc m) 0
+    abbrev value : ℕ → ℕ
+    value = casesOf immediates file (placeIn rows)
+
+    at-place : found ≡ cond (caseOf op value x m) (suc m) 0
     unfolding isCaseAt
     at-place = rw (← ep) ef
 
-    pub label-found : (found ≡ 0 → ⊥) → walk labels (rowIn rows) f x m other ≡ w → found ≡ w
-    label-found n e = walk-found labels (rowIn rows) x f m other w found h d at-place n e
+    pub label-found : (found ≡ 0 → ⊥) → walk op value (rowIn rows) f x m other ≡ w → found ≡ w
+    label-found n e = walk-found op value (rowIn rows) x f m other w found h d at-place n e
 
     pub label-on : (k o n : ℕ) → found ≡ 0 → k ≡ getD file p 0 → o ≡ cond (is DEFAULT (opOf k)) (suc m) other → n ≡ rowIn rows m .label
-        → walk labels (rowIn rows) f x m other ≡ w → walk labels (rowIn rows) (f - 1) x n o ≡ w
-    label-on k o n z ek eo en e = walk-on labels (rowIn rows) x f m other w found o n h d at-place z (rw (← ep, ← ek) eo) en e
+        → walk op value (rowIn rows) f x m other ≡ w → walk op value (rowIn rows) (f - 1) x n o ≡ w
+    label-on k o n z ek eo en e = walk-on op value (rowIn rows) x f m other w found o n h d at-place z (rw (← ep, ← ek) eo) en e

@@ -1,19 +1,14 @@
--- What the walk along the labels of a SWITCH looks at.
+-- What comes next after an instruction of a file, `place n` being the place of instruction n.
 -- Assumes nothing.
 use Prim.Native.Nat.{ℕ}
 use mathlib.Core.List.{List}
 use lib.ListN.{getD}
-use Rattle.format.specs.Fields.{caseAt}
-use Rattle.blocks.specs.Control.{Machine}
-use Rattle.destinations.specs.Destinations.{State}
+use Rattle.format.specs.Fields.{caseWord}
+use Rattle.blocks.specs.Control.{Op, opOf}
 
--- The instructions of a file, `place n` being the place of instruction n, as what comes next asks for them: by kinds and the words of
--- CASEs. The machine of a step has the same (machine's law `Steps.next-labels`).
-abbrev pub labelsOf : List ℕ → List ℕ → (ℕ → ℕ) → Machine State
-labelsOf immediates file place =
-    record {
-      kind = λ n. getD file (place n) 0;
-      effect = λ n s. s;
-      test = λ n s. 0;
-      value = λ n. getD immediates (caseAt file (place n)) 0;
-    }
+-- The control instruction that instruction n is, and its word where it is a CASE.
+abbrev pub opsOf : List ℕ → (ℕ → ℕ) → ℕ → Op
+opsOf file place n = opOf (getD file (place n) 0)
+
+abbrev pub casesOf : List ℕ → List ℕ → (ℕ → ℕ) → ℕ → ℕ
+casesOf immediates file place n = caseWord immediates file (place n)

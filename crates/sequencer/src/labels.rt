@@ -13,7 +13,7 @@ ghost use lib.ListN.{getD};
 ghost use Rattle.blocks.specs.Control.{DEFAULT, is, opOf};
 ghost use Rattle.blocks.specs.Table.{placeIn, rowIn};
 ghost use Rattle.blocks.specs.Run.{walk, mostInstructions};
-ghost use Rattle.sequencer.specs.Labels.{labelsOf};
+ghost use Rattle.sequencer.specs.Labels.{opsOf, casesOf};
 ghost use Rattle.sequencer.specs.Inner.Cases.{isCaseAt};
 
 // The instruction after m where that is the CASE of x, else 0. Its record begins at a place of the file with this kind.
@@ -48,7 +48,7 @@ pub fn after_label(
     label: u32,
     jump: usize,
 ) -> usize
-    ensures { λ r. ⌜ r ≡ walk (labelsOf (now (immediates .entry)) (now (file .entry)) (placeIn (now (rows .entry)))) (rowIn (now (rows .entry))) mostInstructions x label jump ⌝ }
+    ensures { λ r. ⌜ r ≡ walk (opsOf (now (file .entry)) (placeIn (now (rows .entry)))) (casesOf (now (immediates .entry)) (now (file .entry)) (placeIn (now (rows .entry)))) (rowIn (now (rows .entry))) mostInstructions x label jump ⌝ }
 {
     let mut m = label;
     let mut other = jump;

@@ -8,14 +8,14 @@ ghost use mathlib.Core.Path.{_≡_};
 ghost use Rattle.blocks.specs.Control.{opOf};
 ghost use Rattle.blocks.specs.Table.{placeIn, rowIn};
 ghost use Rattle.blocks.specs.Run.{comesNext};
-ghost use Rattle.sequencer.specs.Labels.{labelsOf};
+ghost use Rattle.sequencer.specs.Labels.{opsOf, casesOf};
 
 mod labels;
 pub mod rows;
 
 // What comes next after instruction n, which has this kind, x being what a UIF or SWITCH looks at.
 pub fn next_after(file: &[u8], rows: &[u32], immediates: &[u32], n: u32, kind: u8, x: u32) -> Next
-    ensures { λ r. ⌜ r ≡ comesNext (labelsOf (now (immediates .entry)) (now (file .entry)) (placeIn (now (rows .entry)))) (rowIn (now (rows .entry))) (opOf kind) x n ⌝ }
+    ensures { λ r. ⌜ r ≡ comesNext (opsOf (now (file .entry)) (placeIn (now (rows .entry)))) (casesOf (now (immediates .entry)) (now (file .entry)) (placeIn (now (rows .entry)))) (rowIn (now (rows .entry))) (opOf kind) x n ⌝ }
 {
     let after = n as usize + 1;
     match kind {

@@ -176,10 +176,10 @@ module _ (kinds places : List ℕ) (t : Targets) where
       at-opening kinds m h (λ l. rows op t l ≡ rows op t (blockOf l) ++ rows op t (listIn kinds (m + size (blockOf l)))) a f k
       (λ q.
       let i : m + suc (size p + (size q + 0)) ≡ suc m + size p + size q = omega arith in
-      let u : Targets = inUif m p q t in
+      let u : Targets = inUif (suc m + size p + size q) t in
       rw (i, append-nil (rows op u q), append-assoc (rows op u p) (rows op u q)))
-      (rw (j, append-nil (rows op (inLoop m p) p)))
-      (rw (j, append-nil (rows op (inSwitch m p t) p)))
+      (rw (j, append-nil (rows op (inLoop (suc m) (suc m + size p)) p)))
+      (rw (j, append-nil (rows op (inSwitch (suc m + size p) t) p)))
 
   -- `single`: the row of an instruction that opens no block.
   pub single-row : (n j l : ℕ) (w w1 : List ℕ)
@@ -243,8 +243,8 @@ module _ (kinds places : List ℕ) (t : Targets) where
     unfolding wordsIn wordsOf rows list
     open-loop u g k wrote w2 inside =
         let fin : e ≡ suc n + size list = ends ∙ rw (at-loop kinds n h k) (omega arith) in
-        rw (at-loop kinds n h k, append-nil (rows op (inLoop n list) list))
-        (rows-then place n (suc n) (loopRow ∷ []) (rows op (inLoop n list) list) w w1 w2 wrote (omega arith)
+        rw (at-loop kinds n h k, append-nil (rows op (inLoop (suc n) (suc n + size list)) list))
+        (rows-then place n (suc n) (loopRow ∷ []) (rows op (inLoop (suc n) (suc n + size list)) list) w w1 w2 wrote (omega arith)
         (rw (g, fin, add-one n) at inside))
 
     open-switch : (l : ℕ)
@@ -258,8 +258,8 @@ module _ (kinds places : List ℕ) (t : Targets) where
     unfolding wordsIn wordsOf rows list
     open-switch l label wrote u w2 inside k g =
         let fin : e ≡ suc n + size list = ends ∙ rw (at-switch kinds n h k) (omega arith) in
-        rw (at-switch kinds n h k, append-nil (rows op (inSwitch n list t) list))
-        (rows-then place n (suc n) (switchRow op n list ∷ []) (rows op (inSwitch n list t) list) w w1 w2
+        rw (at-switch kinds n h k, append-nil (rows op (inSwitch (suc n + size list) t) list))
+        (rows-then place n (suc n) (switchRow op n list ∷ []) (rows op (inSwitch (suc n + size list) t) list) w w1 w2
         (rw (fin, label, add-one n) at wrote) (omega arith) (rw (g, fin, add-one n) at inside))
 
     -- A UIF's first part ends before number p, and is written.
@@ -276,11 +276,11 @@ module _ (kinds places : List ℕ) (t : Targets) where
         -- With the second part q, whose rows go the same ways.
         first-rows : (q : Items)
             → e ≡ n + size (uif n list q nil)
-            → w2 ≡ sets w (rowWords * n) (wordsOf place n (uifRow n list ∷ rows op (inUif n list q t) list))
+            → w2 ≡ sets w (rowWords * n) (wordsOf place n (uifRow n list ∷ rows op (inUif (suc n + size list + size q) t) list))
         unfolding wordsIn wordsOf rows list
         first-rows q fin =
             let fin′ : e ≡ suc n + size list + size q = omega arith in
-            rows-then place n (suc n) (uifRow n list ∷ []) (rows op (inUif n list q t) list) w w1 w2 (rw part at wrote) (omega arith)
+            rows-then place n (suc n) (uifRow n list ∷ []) (rows op (inUif (suc n + size list + size q) t) list) w w1 w2 (rw part at wrote) (omega arith)
             (rw (fin′, add-one n) at inside)
 
         open-if : e ≤ p → w2 ≡ sets w (rowWords * n) (wordsIn kinds places t n (blockIn kinds n))
@@ -289,7 +289,7 @@ module _ (kinds places : List ℕ) (t : Targets) where
             at-uif kinds n h (λ l. e ≡ n + size l → w2 ≡ sets w (rowWords * n) (wordsOf place n (rows op t l))) k
             (λ q other fin.
             let none : q ≡ nil = empty q (omega (arith, part)) in
-            rw (none, append-nil (rows op (inUif n list nil t) list)) (first-rows nil (rw none at fin)))
+            rw (none, append-nil (rows op (inUif (suc n + size list + size nil) t) list)) (first-rows nil (rw none at fin)))
             ends
 
         open-else : p < e
@@ -300,7 +300,7 @@ module _ (kinds places : List ℕ) (t : Targets) where
         open-else lt w3 more =
             at-uif kinds n h (λ l. e ≡ n + size l → w3 ≡ sets w (rowWords * n) (wordsOf place n (rows op t l))) k
             (λ q second fin.
-            let v : Targets = inUif n list q t in
+            let v : Targets = inUif (suc n + size list + size q) t in
             let fin′ : e ≡ suc n + size list + size q = omega arith in
             let same : listIn kinds p ≡ q = rw part (sym (second (omega (arith, part)))) in
             rw (append-nil (rows op v q))

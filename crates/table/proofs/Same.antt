@@ -76,18 +76,18 @@ module _ (op op′ : ℕ → Op) (N : ℕ) (same : (n : ℕ) → n < N → op n 
   rows-same (one n rest) a t w =
       rw (same n (omega (arith, w .0, w .1)), label-same rest (suc a) (w .2), rows-same rest (suc a) t (w .2))
   rows-same (uif n p q rest) a t w =
-      let u : Targets = inUif n p q t in
+      let u : Targets = inUif (suc n + size p + size q) t in
       rw (
         rows-same p (suc a) u (w .2),
         rows-same q (suc a + size p) u (w .3),
         rows-same rest (suc a + size p + size q) t (w .4),
       )
   rows-same (loop n l rest) a t w =
-      rw (rows-same l (suc a) (inLoop n l) (w .2), rows-same rest (suc a + size l) t (w .3))
+      rw (rows-same l (suc a) (inLoop (suc n) (suc n + size l)) (w .2), rows-same rest (suc a + size l) t (w .3))
   rows-same (switch n l rest) a t w =
       rw (
         label-same l (suc a) (w .2),
-        rows-same l (suc a) (inSwitch n l t) (w .2),
+        rows-same l (suc a) (inSwitch (suc n + size l) t) (w .2),
         rows-same rest (suc a + size l) t (w .3),
       )
 

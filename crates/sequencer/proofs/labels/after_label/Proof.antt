@@ -3,15 +3,15 @@ use mathlib.Core.Path.{_≡_}
 use borrow.Author.Needs.{needs}
 use Rattle.blocks.specs.Run.{mostInstructions, walk}
 use Rattle.blocks.specs.Table.{placeIn, rowIn}
-use Rattle.sequencer.specs.Labels.{labelsOf}
+use Rattle.sequencer.specs.Labels.{opsOf, casesOf}
 use Rattle.sequencer.proofs.Walks.{label-found, label-on, walk-ended, walk-spent}
 use Rattle.sequencer.proofs.labels.after_label.Statement.{statement}
 use Rattle.sequencer.proofs.labels.after_label.Tie as tie
 
 abbrev Inv-loop : tie.InvT-loop
 Inv-loop file rows immediates x label jump m₀ other₀ left₀ m other left =
-    walk (labelsOf immediates file (placeIn rows)) (rowIn rows) left x m other
-    ≡ walk (labelsOf immediates file (placeIn rows)) (rowIn rows) mostInstructions x label jump
+    walk (opsOf file (placeIn rows)) (casesOf immediates file (placeIn rows)) (rowIn rows) left x m other
+    ≡ walk (opsOf file (placeIn rows)) (casesOf immediates file (placeIn rows)) (rowIn rows) mostInstructions x label jump
 
 abbrev μ-loop : tie.MeasureT-loop
 μ-loop file rows immediates x label jump m₀ other₀ left₀ m other left = left
