@@ -1,2 +1,1 @@
-pub mod Launched
 pub mod Inner

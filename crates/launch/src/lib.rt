@@ -1,5 +1,6 @@
-// A program over what is lent: its table written, the bank gathered, the registers cleared, its instructions carried out by the
-// table. Nothing is asked of the program: what is carried out is what the table says.
+// A program over what is lent: the bank gathered, its table written, the registers cleared, its instructions carried out by the
+// table. Nothing is asked of the program: what is carried out is what the table says. Where it is what the check saw of the file, and
+// all that it needs is lent, that is the block reading (`runner`'s `run`).
 use checker::program::Program;
 use execution::Stop;
 use execution::steps::carry_out;
@@ -7,7 +8,12 @@ use lending::bank_of;
 use lending::clear;
 use preparation::write_table;
 use sources::bank::Bank;
-ghost use Rattle.launch.specs.Launched.{Launched};
+ghost use mathlib.Core.Path.{_≡_};
+ghost use Rattle.table.specs.Prepared.{filled};
+ghost use Rattle.registers.specs.Sets.{isIn};
+ghost use Rattle.effects.specs.Effect.{state};
+ghost use Rattle.lending.specs.Lent.{bankEnv, zeroed};
+ghost use Rattle.execution.specs.Steps.{reached, byRows};
 ghost use Rattle.launch.specs.Inner.Came.{Came};
 
 // Clears the registers and carries out by the rows.
@@ -37,7 +43,8 @@ pub fn carry_out_program(
     memory: &mut [u32],
     budget: u32,
 ) -> Stop
-    ensures { λ r. ⌜ Launched program (now (immediates .entry)) (now (file .entry)) (now (inputs .entry)) (now (constants .entry)) (now (registers .entry)) (now (work .entry)) (now (memory .entry)) budget r (now (registers .exit)) (now (work .exit)) (now (memory .exit)) ⌝ }
+    ensures table { λ _. ⌜ now (work .exit) ≡ filled (now (file .entry)) (program .start) (program .instructions) (now (work .entry)) ⌝ }
+    ensures came { λ r. ⌜ reached r (state (now (registers .exit)) (now (memory .exit))) ≡ byRows (now (file .entry)) (now (work .exit)) (bankEnv (isIn (program .declared)) (now (immediates .entry)) (now (inputs .entry)) (now (constants .entry))) budget 0 0 (state (zeroed (now (registers .entry))) (now (memory .entry))) ⌝ }
 {
     let declared = program.declared;
     let bank = bank_of(declared, immediates, inputs, constants);

@@ -7,6 +7,7 @@ use native.Mathlib.Omega.{arith}
 use lib.ListN.{length, take}
 use Rattle.blocks.specs.Run.{mostInstructions}
 use Rattle.blocks.specs.Table.{rowWords}
+use Rattle.table.specs.Prepared.{filled}
 use Rattle.registers.specs.Sets.{isIn}
 use Rattle.checker.specs.declared.Checked.{Checked}
 use Rattle.checker.specs.declared.Verdict.the-variants.{Accepted, Refused}
@@ -22,7 +23,7 @@ use Rattle.admission.specs.Admission.{admissionOf}
 use Rattle.admission.proofs.Admitting.{Admitted, admitted-is, lent-enough}
 use Rattle.preparation.specs.Preparing.{preparedIn}
 use Rattle.preparation.proofs.Preparing.{table-made}
-use Rattle.lending.specs.Lent.{bankEnv, cleared}
+use Rattle.lending.specs.Lent.{bankEnv, cleared, zeroed}
 use Rattle.lending.proofs.Copies.{zeroed-is}
 use Rattle.lending.proofs.Indirect.{padded-words}
 use Rattle.execution.specs.declared.Report.{Report}
@@ -32,7 +33,6 @@ use Rattle.execution.specs.Steps.{reached, byRows}
 use Rattle.execution.specs.Inner.Right.{Right}
 use Rattle.execution.proofs.Demand.{halts-inside, rows-read}
 use Rattle.execution.proofs.Rows.{prepared-right}
-use Rattle.launch.specs.Launched.{Launched}
 use Rattle.runner.specs.declared.Outcome.{Outcome}
 use Rattle.runner.specs.Answers.{Answer, said, runAnswer, stepsOf, Lent, lent, after}
 use Rattle.runner.specs.Whole.{sizesOf, reported, runAdmitted, runOf}
@@ -76,7 +76,8 @@ module _ (file inputs constants registers work memory : List ℕ) (c : Checked) 
 
     -- The program that was seen is admitted, and came to a stop.
     module _ (n budget : ℕ) (stop : Stop) (r′ w m′ : List ℕ)
-        (launched : Launched (c .program) words file inputs constants registers work memory budget stop r′ w m′)
+        (made : w ≡ filled file (c .program .start) (c .program .instructions) work)
+        (came : reached stop (state r′ m′) ≡ byRows file w (bankEnv (isIn (c .program .declared)) words inputs constants) budget 0 0 (state (zeroed registers) memory))
         (e : c .verdict ≡ Accepted n)
       where
         abbrev seen : Seen
@@ -98,14 +99,14 @@ module _ (file inputs constants registers work memory : List ℕ) (c : Checked) 
         fits = lent-enough seen (sizesOf inputs constants over) (holds .none-due)
 
         w-prepared : w ≡ preparedIn seen file work
-        w-prepared = launched .table ∙ table-made seen file work (holds .follows) (fits .1)
+        w-prepared = made ∙ table-made seen file work (holds .follows) (fits .1)
 
         right : Right seen file w
         right = rw w-prepared (prepared-right seen file (holds .follows) work (fits .1))
 
         carried : reached stop (state r′ m′) ≡ carriedOut seen file inputs constants budget (state (cleared registers) memory)
         carried =
-            launched .came
+            came
             ∙ ap (λ (l : List ℕ). byRows file w (bankEnv (isIn (c .program .declared)) words inputs constants) budget 0 0 (state l memory)) (zeroed-is registers (fits .0))
             ∙ rw padded
             (rows-read seen file (holds .follows) inputs constants w right budget (state (cleared registers) memory))

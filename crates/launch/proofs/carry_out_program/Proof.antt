@@ -1,7 +1,7 @@
 -- A program is carried out by the table that is made of it, over the bank that holds what it reads.
 -- Assumes nothing.
 use borrow.Author.Needs.{needs}
-use Rattle.launch.proofs.Launching.{launched}
+use Rattle.launch.proofs.Launching.{came-by-bank}
 use Rattle.launch.proofs.carry_out_program.Statement.{statement}
 use Rattle.launch.proofs.carry_out_program.Tie as tie
 
@@ -11,4 +11,4 @@ carry-out-program-spec =
     (tie.spec
     (search needs) (search needs) (search needs)
     (search needs) (search needs) (search needs)
-    (λ c. search (needs, launched)))
+    (λ c. (search needs, search (needs, came-by-bank))))
