@@ -52,6 +52,7 @@ fn refused(number: u8, place: u32) -> Answer
     }
 }
 
+// What `check` answered, in words.
 pub fn checked(verdict: Verdict) -> Answer
     ensures { λ r. ⌜ r ≡ toldWords (told verdict) ⌝ }
 {
@@ -61,6 +62,7 @@ pub fn checked(verdict: Verdict) -> Answer
     }
 }
 
+// What `prepare` answered.
 pub fn prepared(outcome: Prepared) -> Answer
     ensures { λ r. ⌜ r ≡ toldWords (prepareAnswer outcome) ⌝ }
 {
@@ -70,6 +72,7 @@ pub fn prepared(outcome: Prepared) -> Answer
     }
 }
 
+// What `run` answered.
 pub fn ran(outcome: Outcome) -> Answer
     ensures { λ r. ⌜ r ≡ answerOf (runAnswer outcome) ⌝ }
 {
@@ -84,6 +87,7 @@ pub fn ran(outcome: Outcome) -> Answer
     }
 }
 
+// Where a record lies.
 pub fn located(bounds: Bounds) -> Part
     ensures { λ r. ⌜ r ≡ partOf bounds ⌝ }
 {

@@ -2,7 +2,7 @@
 -- Assumes nothing.
 use Rattle.destinations.specs.Destinations.{components, ifMasked, masked, placed}
 use Rattle.results.specs.Arithmetic.{resultWord}
-use Rattle.componentwise.specs.Sources.{sourceWord, resultWords}
+use Rattle.componentwise.specs.Components.{sourceWord, resultWords}
 use Rattle.words.specs.Word.{bit}
 use Prim.Native.Nat.{_+_, _<_, _≤_, suc, zero, ℕ}
 use mathlib.Core.Path.{_∙_, _≡_, ap, refl}

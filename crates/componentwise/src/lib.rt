@@ -5,7 +5,7 @@ use results::word;
 ghost use mathlib.Core.Path.{_≡_};
 ghost use Prim.Native.Nat.{_<_};
 ghost use Rattle.destinations.specs.Destinations.{ifMasked, masked, placed};
-ghost use Rattle.componentwise.specs.Sources.{sourceWord, resultWords};
+ghost use Rattle.componentwise.specs.Components.{sourceWord, resultWords};
 
 // Component i of source j.
 fn source_word(sources: &[[u32; 4]; 4], j: usize, i: usize) -> u32
@@ -33,6 +33,7 @@ fn put_word(registers: &mut [u32], first: u32, mask: u8, kind: u8, sources: &[[u
     }
 }
 
+// Writes the components of a result on words that the mask has.
 pub fn write_words(registers: &mut [u32], first: u32, mask: u8, kind: u8, sources: &[[u32; 4]; 4])
     ensures { λ _. ⌜ now (registers .exit) ≡ masked mask (placed first (resultWords kind (now (sources .entry)))) (now (registers .entry)) ⌝ }
 {

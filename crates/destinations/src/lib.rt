@@ -1,4 +1,5 @@
-// Destinations: results written by register number to the components of a mask, in lent words.
+// Lent words, which registers and memory are, read and written one by one (`lent`), and destinations: results written by register
+// number to the components of a mask.
 use crate::lent::set_word;
 use format::fields::Destination;
 use format::files::ADDR_FROM;
@@ -28,6 +29,7 @@ fn put(registers: &mut [u32], mask: u8, i: u8, first: u32, word: u32)
     }
 }
 
+// Where the words of the register begin that a destination names.
 pub fn first_word(d: Destination) -> u32
     ensures { λ r. ⌜ r ≡ firstWord d ⌝ }
 {

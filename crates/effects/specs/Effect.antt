@@ -11,7 +11,7 @@ use Rattle.format.specs.declared.fields.Destination.{Destination}
 use Rattle.destinations.specs.Destinations.{State, components, written}
 use Rattle.memory.specs.Memory.{loaded, stored, loadedFrom, storedFrom}
 use Rattle.results.specs.Arithmetic.{atomic, wideUnaryOf, wideOf}
-use Rattle.componentwise.specs.Sources.{sourceWord, resultWords}
+use Rattle.componentwise.specs.Components.{sourceWord, resultWords}
 
 abbrev pub state : List ℕ → List ℕ → State
 state r m = record { registers = r; memory = m }

@@ -27,6 +27,7 @@ use Rattle.checker.specs.Findings.{Seen}
 use Rattle.checker.proofs.Followed.{followed}
 use Rattle.destinations.specs.Destinations.{State}
 use Rattle.effects.specs.Effect.{effectOf, familyOf, xOf}
+use Rattle.sources.specs.Bank.{envIn}
 use Rattle.sources.specs.Operands.{Env, kindByte}
 use Rattle.machine.specs.Step.{machineOf, recordEffect}
 use Rattle.lending.specs.Lent.{bankEnv}
@@ -129,3 +130,11 @@ module _ (s : Seen) (file : List ℕ) (ok : checkOf file ≡ accepted s) (inputs
         rows-run file rows bankOf budget 0 0 from
         (λ k m d t there. omega (arith, halts-inside k from m d t (sym (runs-read k from) ∙ there), followed file s ok .1 .most))
         ∙ runs-read budget from
+
+    -- What `carry_out` leaves over a bank that holds what the program reads.
+    pub came-read : (bank : List ℕ) (budget : ℕ) (from : State) (r : Reading State)
+        → envIn bank ≡ bankOf
+        → r ≡ byRows file rows (envIn bank) budget 0 0 from
+        → r ≡ carriedOut s file inputs constants budget from
+    came-read bank budget from r env-is came =
+        came ∙ ap (λ (e : Env). byRows file rows e budget 0 0 from) env-is ∙ rows-read budget from

@@ -26,7 +26,7 @@ use Rattle.results.specs.Arithmetic.{wideUnaryOf, wideOf}
 use Rattle.destinations.specs.Destinations.{State, components, firstWord, ifMasked, masked, placed}
 use Rattle.effects.specs.Effect.{Family, WORDS, WIDE-UNARY, LOAD, WIDE, STORE, ATOMIC, ATOMCAS, NONE, familyOf, effectOf, xOf}
 use Rattle.memory.specs.Memory.{loaded, loadedFrom}
-use Rattle.componentwise.specs.Sources.{resultWords}
+use Rattle.componentwise.specs.Components.{resultWords}
 use Rattle.sources.specs.Operands.{kindByte, sourcesOf}
 use Rattle.machine.specs.Step.{recordEffect}
 use Rattle.execution.specs.Program.{placeOf, envOf, programOf, carriedOut}

@@ -14,11 +14,11 @@ abbrev pub every : (ℕ → Bool) → ℕ → ℕ → Bool
 every t lo zero = true
 every t lo (suc n) = t (lo + n) && every t lo n
 
-pub and-left : (a b : Bool) → T (a && b) → T a
+and-left : (a b : Bool) → T (a && b) → T a
 and-left true b h = tt
 and-left false b h = h
 
-pub and-right : (a b : Bool) → T (a && b) → T b
+and-right : (a b : Bool) → T (a && b) → T b
 and-right true b h = h
 and-right false b h = absurd h
 

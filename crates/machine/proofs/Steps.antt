@@ -1,6 +1,6 @@
 -- A step: what the record's instruction does, and what comes next, as blocks' `step` has them.
 -- Assumes nothing.
-use Rattle.componentwise.specs.Sources.{sourceWord}
+use Rattle.componentwise.specs.Components.{sourceWord}
 use Rattle.destinations.specs.Destinations.{State}
 use Rattle.effects.specs.Effect.{NONE, effectOf, familyOf, state}
 use Rattle.effects.proofs.Effects.{kindIn, same-family}

@@ -5,7 +5,7 @@ use effects::effect::effect;
 use readers::byte_at;
 use readers::destination_at;
 use sequencer::next_after;
-use sequencer::rows::place_of;
+use sequencer::prepared::place_of;
 use sources::bank::Bank;
 use sources::parts;
 ghost use mathlib.Core.Path.{_≡_};

@@ -7,6 +7,7 @@ ghost use Prim.Native.Nat.{_+_, _*_};
 ghost use Rattle.destinations.specs.Destinations.{ifMasked};
 ghost use Rattle.memory.specs.Memory.{loaded, stored, loadedFrom, storedFrom};
 
+// The word at an address.
 pub fn load(memory: &[u32], address: usize) -> u32
     ensures { λ r. ⌜ r ≡ loaded (now (memory .entry)) address ⌝ }
 {
@@ -17,6 +18,7 @@ pub fn load(memory: &[u32], address: usize) -> u32
     }
 }
 
+// Writes the word at an address.
 pub fn store(memory: &mut [u32], address: usize, word: u32)
     ensures { λ r. ⌜ now (memory .exit) ≡ stored (now (memory .entry)) address word ⌝ }
 {

@@ -3,11 +3,7 @@
 use blocks::control;
 use rules::nesting_refusal;
 use stack::Blocks;
-use stack::DEFAULTED;
-use stack::ELSE;
-use stack::LOOP;
-use stack::SWITCH;
-use stack::UIF;
+use stack::codes;
 use stack::innermost_start;
 use stack::popped;
 use stack::recoded;
@@ -67,14 +63,14 @@ fn open_after(
     ensures { λ r. ⌜ leaving 0 r (now (values .exit)) (now (links .exit)) ≡ leftAfter (opOf kind) x b (now (values .entry)) (now (links .entry)) ⌝ }
 {
     match kind {
-        control::ELSE => recoded(b, ELSE),
+        control::ELSE => recoded(b, codes::ELSE),
         control::ENDIF => popped(b),
-        control::BGNLOOP => pushed(b, LOOP),
+        control::BGNLOOP => pushed(b, codes::LOOP),
         control::ENDLOOP => popped(b),
-        control::DEFAULT => recoded(b, DEFAULTED),
+        control::DEFAULT => recoded(b, codes::DEFAULTED),
         control::ENDSWITCH => popped(b),
-        control::UIF => pushed(b, UIF),
-        control::SWITCH => pushed(b, SWITCH),
+        control::UIF => pushed(b, codes::UIF),
+        control::SWITCH => pushed(b, codes::SWITCH),
         control::CASE => labelled(b, values, links, x),
         _ => b,
     }

@@ -17,7 +17,7 @@ pub enum Prepared {
     Refused(u8, u32),
 }
 
-// Writes the table of a program that the check took to the working words.
+// Writes the table of a program to the working words; where it cannot be made they stay (`filled`).
 pub fn write_table(file: &[u8], program: Program, work: &mut [u32])
     ensures { λ _. ⌜ now (work .exit) ≡ filled (now (file .entry)) (program .start) (program .instructions) (now (work .entry)) ⌝ }
 {

@@ -53,6 +53,7 @@ pub fn u32_at(bytes: &[u8], at: usize) -> u32
         + 16777216 * byte_after(bytes, at, 3) as u32
 }
 
+// The destination that stands at a place.
 pub fn destination_at(file: &[u8], at: usize) -> Destination
     ensures { λ r. ⌜ r ≡ destinationAt (now (file .entry)) at ⌝ }
 {
@@ -80,6 +81,7 @@ fn destination_in(bytes: &[u8], at: usize) -> Destination
     }
 }
 
+// The source that stands at a place.
 pub fn source_at(file: &[u8], at: usize) -> Source
     ensures { λ r. ⌜ r ≡ sourceAt (now (file .entry)) at ⌝ }
 {

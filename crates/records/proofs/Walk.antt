@@ -25,10 +25,6 @@ chosen-fits true true false l at k h f = omega arith
 chosen-fits true false c l at k h f = omega arith
 chosen-fits false b c l at k h f = omega arith
 
-chosen : (t : Bool) (k : ℕ) → (cond t k 0 ≡ 0 → ⊥) → cond t k 0 ≡ k
-chosen true k h = refl
-chosen false k h = absurd (h refl)
-
 chosen-within : (t : Bool) (l k : ℕ) → k ≤ l → cond t l k ≤ l
 chosen-within true l k h = omega arith
 chosen-within false l k h = h

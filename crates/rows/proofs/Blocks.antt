@@ -8,35 +8,25 @@ use Prim.Native.Nat.{ℕ, suc, _+_, _<_, _≤_}
 use native.Mathlib.Omega.{arith}
 use native.Mathlib.Numerals.{add-one}
 use lib.ListN.{length, getD, List·getD-eq-default}
-use Rattle.blocks.specs.Control.{Op, PLAIN, ELSE, ENDIF, BGNLOOP, ENDLOOP, BRK, CONT, DEFAULT, ENDSWITCH, END, UIF, SWITCH, CASE, kindOf, isLabel, opOf}
+use Rattle.blocks.specs.Control.{BGNLOOP, SWITCH, isLabel, opOf}
 use Rattle.blocks.specs.Lists.{Items, nil, loop, switch, size}
 use Rattle.blocks.specs.Nesting.{opens}
 use Rattle.blocks.specs.declared.Targets.{Targets}
 use Rattle.blocks.specs.Table.{firstLabel, inUif, inLoop, inSwitch}
-use Rattle.blocks.proofs.Ops.{by-kind, not-kind}
+use Rattle.blocks.proofs.Ops.{not-kind}
 use Rattle.lists.specs.Lists.{opIn, listIn, blockIn}
+use Rattle.lists.proofs.Tests.{opening-kind}
 use Rattle.lists.proofs.Readers.{past-end, at-none, at-loop, at-switch, at-uif}
 use Rattle.rows.specs.Opened.{pastFirst, firstRow, openedBy, insideOf}
 
 -- ---- `block_at`
 
 loop-or-none : (k : ℕ) → (k ≡ 0x90 → ⊥) → (k ≡ 0x91 → ⊥) → (k ≡ 0x83) ⊎ (opens (opOf k) ≡ false)
-loop-or-none k u s = by-kind (λ o. (k ≡ 0x83) ⊎ (opens o ≡ false)) k on (inr refl)
+loop-or-none k u s = by (opens (opOf k)) refl
   where
-    on : (o : Op) → k ≡ kindOf o → (k ≡ 0x83) ⊎ (opens o ≡ false)
-    on BGNLOOP e = inl e
-    on UIF e = absurd (u e)
-    on SWITCH e = absurd (s e)
-    on PLAIN e = inr refl
-    on ELSE e = inr refl
-    on ENDIF e = inr refl
-    on ENDLOOP e = inr refl
-    on BRK e = inr refl
-    on CONT e = inr refl
-    on DEFAULT e = inr refl
-    on ENDSWITCH e = inr refl
-    on END e = inr refl
-    on CASE e = inr refl
+    by : (v : Bool) → opens (opOf k) ≡ v → (k ≡ 0x83) ⊎ (opens (opOf k) ≡ false)
+    by false e = inr e
+    by true e = opening-kind k e ((k ≡ 0x83) ⊎ (opens (opOf k) ≡ false)) (λ l. inl l) (λ d. absurd (u d)) (λ d. absurd (s d))
 
 -- The block of instruction n ends before number e.
 module _ (kinds : List ℕ) (n e : ℕ) (ends : e ≡ n + size (blockIn kinds n)) where
@@ -72,14 +62,15 @@ module _ (kinds : List ℕ) (n e : ℕ) (ends : e ≡ n + size (blockIn kinds n)
         let s : e ≡ suc n + size (listIn kinds (suc n)) = ends ∙ rw (at-switch kinds n h k) (omega arith) in
         opened-is (switch n (listIn kinds (suc n)) nil) e e l (at-switch kinds n h k) s s (rw (add-one n) at label)
 
-    pub opened-uif : (p : ℕ)
+    pub opened-uif : (p j : ℕ)
         → p ≡ n + 1 + size (listIn kinds (n + 1))
         → getD kinds n 0 ≡ 0x90
-        → record { end = e; second = p; jump = p; label = 0 } ≡ openedBy (opIn kinds) n (blockIn kinds n)
-    opened-uif p first k =
+        → j ≡ p
+        → record { end = e; second = p; jump = j; label = 0 } ≡ openedBy (opIn kinds) n (blockIn kinds n)
+    opened-uif p j first k goes =
         let s : p ≡ suc n + size (listIn kinds (suc n)) = rw (add-one n) at first in
-        at-uif kinds n h (λ l. e ≡ n + size l → record { end = e; second = p; jump = p; label = 0 } ≡ openedBy (opIn kinds) n l) k
-        (λ q other d. rw (d, s)) ends
+        at-uif kinds n h (λ l. e ≡ n + size l → record { end = e; second = p; jump = j; label = 0 } ≡ openedBy (opIn kinds) n l) k
+        (λ q other d. rw (d, goes, s)) ends
 
 -- ---- `inside`
 

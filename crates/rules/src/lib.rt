@@ -3,12 +3,8 @@ use blocks::control;
 use blocks::control::is_opening;
 use format::refusals;
 use stack::Blocks;
-use stack::DEFAULTED;
-use stack::ELSE;
-use stack::LOOP;
 use stack::MOST_OPEN;
-use stack::SWITCH;
-use stack::UIF;
+use stack::codes;
 use stack::innermost_is;
 use stack::innermost_start;
 use stack::some_is;
@@ -21,15 +17,15 @@ fn nesting_kept(b: Blocks, kind: u8) -> bool
     ensures { λ r. ⌜ r ≡ nestingKept (opOf kind) b ⌝ }
 {
     match kind {
-        control::ELSE => innermost_is(b, UIF, UIF),
-        control::ENDIF => innermost_is(b, UIF, ELSE),
-        control::ENDLOOP => innermost_is(b, LOOP, LOOP),
-        control::BRK => some_is(b, LOOP, DEFAULTED),
-        control::CONT => some_is(b, LOOP, LOOP),
-        control::DEFAULT => innermost_is(b, SWITCH, DEFAULTED),
-        control::ENDSWITCH => innermost_is(b, SWITCH, DEFAULTED),
+        control::ELSE => innermost_is(b, codes::UIF, codes::UIF),
+        control::ENDIF => innermost_is(b, codes::UIF, codes::ELSE),
+        control::ENDLOOP => innermost_is(b, codes::LOOP, codes::LOOP),
+        control::BRK => some_is(b, codes::LOOP, codes::DEFAULTED),
+        control::CONT => some_is(b, codes::LOOP, codes::LOOP),
+        control::DEFAULT => innermost_is(b, codes::SWITCH, codes::DEFAULTED),
+        control::ENDSWITCH => innermost_is(b, codes::SWITCH, codes::DEFAULTED),
         control::END => b.depth == 0,
-        control::CASE => innermost_is(b, SWITCH, DEFAULTED),
+        control::CASE => innermost_is(b, codes::SWITCH, codes::DEFAULTED),
         _ => true,
     }
 }
@@ -41,11 +37,11 @@ fn switch_kept(b: Blocks, values: &[u32; 1024], links: &[u16; 2048], kind: u8, x
     let start = innermost_start(b);
     let wordless = b.held <= start;
     match kind {
-        control::DEFAULT => innermost_is(b, SWITCH, SWITCH),
-        control::ENDSWITCH => innermost_is(b, SWITCH, DEFAULTED) & !wordless,
-        control::CASE => innermost_is(b, SWITCH, SWITCH)
+        control::DEFAULT => innermost_is(b, codes::SWITCH, codes::SWITCH),
+        control::ENDSWITCH => innermost_is(b, codes::SWITCH, codes::DEFAULTED) & !wordless,
+        control::CASE => innermost_is(b, codes::SWITCH, codes::SWITCH)
             & !tree::has_value(values, links, start, b.held, x),
-        _ => !(innermost_is(b, SWITCH, SWITCH) & wordless),
+        _ => !(innermost_is(b, codes::SWITCH, codes::SWITCH) & wordless),
     }
 }
 

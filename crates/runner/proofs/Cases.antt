@@ -19,7 +19,7 @@ use Rattle.checker.specs.Check.{walk, checkOf, follows, breaks}
 use Rattle.checker.specs.Findings.{withDeclaration, declarationFinding, withImmediate, immediateFinding, withInstruction, instructionFinding, recordFinding}
 use Rattle.results.specs.Arithmetic.{unary, binary, ternary, resultWord, wide, halves, countOr, wideOf}
 use Rattle.destinations.specs.Destinations.{components, ifMasked, masked, firstWord}
-use Rattle.componentwise.specs.Sources.{resultWords}
+use Rattle.componentwise.specs.Components.{resultWords}
 use Rattle.effects.specs.Effect.{familyOf}
 use Rattle.sources.specs.Operands.{registerWords, registerOf, taken, sourceOf, nthSource, sourcesOf}
 use Rattle.machine.specs.Step.{recordEffect}

@@ -1,6 +1,6 @@
 // Where a SWITCH goes: the walk along its labels, which looks at all CASEs before it takes DEFAULT.
-use crate::rows::label_of;
-use crate::rows::place_of;
+use crate::prepared::label_of;
+use crate::prepared::place_of;
 use blocks::MOST_INSTRUCTIONS;
 use blocks::control::CASE;
 use blocks::control::DEFAULT;

@@ -1,7 +1,7 @@
 // What comes next after an instruction: by the prepared rows, and for a SWITCH along its labels.
 use crate::labels::after_label;
-use crate::rows::jump_of;
-use crate::rows::label_of;
+use crate::prepared::jump_of;
+use crate::prepared::label_of;
 use blocks::Next;
 use blocks::control;
 ghost use mathlib.Core.Path.{_≡_};
@@ -11,7 +11,7 @@ ghost use Rattle.blocks.specs.Run.{comesNext};
 ghost use Rattle.sequencer.specs.Labels.{opsOf, casesOf};
 
 mod labels;
-pub mod rows;
+pub mod prepared;
 
 // What comes next after instruction n, which has this kind, x being what a UIF or SWITCH looks at.
 pub fn next_after(file: &[u8], rows: &[u32], immediates: &[u32], n: u32, kind: u8, x: u32) -> Next

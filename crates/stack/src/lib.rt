@@ -3,6 +3,8 @@ ghost use mathlib.Core.Path.{_≡_};
 ghost use lib.ListN.{getD};
 ghost use Rattle.stack.specs.Arrays.{noneOpen, innermostIs, someIs, innermostStart, popped, recoded};
 
+pub mod codes;
+
 // The open blocks, the outermost first: a code each, and where its words start. `held` is where the words end.
 pub struct Blocks {
     pub codes: [u8; 16],
@@ -11,18 +13,9 @@ pub struct Blocks {
     pub held: u16,
 }
 
-pub const UIF: u8 = 0;
-
-pub const ELSE: u8 = 1;
-
-pub const LOOP: u8 = 2;
-
-pub const SWITCH: u8 = 3;
-
-pub const DEFAULTED: u8 = 4;
-
 pub const MOST_OPEN: u8 = 16;
 
+// No block is open.
 pub fn none_open() -> Blocks
     ensures { λ r. ⌜ r ≡ noneOpen ⌝ }
 {

@@ -2,7 +2,7 @@
 use Rattle.componentwise.proofs.Components.{word-lengths, word-more, words-written, writtenTo}
 use mathlib.Core.Path.{_≡_}
 use Prim.Native.Nat.{_-_, _≤_}
-use Rattle.componentwise.specs.Sources.{resultWords}
+use Rattle.componentwise.specs.Components.{resultWords}
 use borrow.Author.Needs.{needs}
 use Rattle.componentwise.proofs.write_words.Statement.{statement}
 use Rattle.componentwise.proofs.write_words.Tie as tie

@@ -1,5 +1,6 @@
 -- `block_at`: the block by its kind, or none.
 -- Assumes nothing.
+use mathlib.Core.Path.{refl}
 use borrow.Author.Needs.{needs}
 use Rattle.rows.proofs.Blocks.{opened-past, opened-other, opened-switch, opened-uif}
 use Rattle.rows.proofs.block_at.Statement.{statement}
@@ -13,7 +14,7 @@ block-at-spec =
     (search needs)
     (search needs)
     (λ c κs. search needs)
-    (λ c. search (needs, opened-uif))
+    (λ c. search (needs, opened-uif, refl))
     (search needs)
     (λ c κs. search needs)
     (λ c. search (needs, opened-switch))
