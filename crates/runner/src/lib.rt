@@ -2,7 +2,7 @@
 use admission::Sizes;
 use admission::admit;
 use execution::Stop;
-use launch::carry_out_program;
+use running::carry_out_program;
 ghost use mathlib.Core.Path.{_≡_};
 ghost use Prim.Native.Nat.{_≤_};
 ghost use Rattle.runner.specs.Answers.{runAnswer, lent, after, stepsOf};

@@ -1,4 +1,4 @@
--- What the parts of a launch leave comes to what the launch leaves.
+-- From cleared registers, over a bank that holds what is read.
 -- Assumes nothing.
 use mathlib.Core.Path.{_≡_, ap, _∙_}
 use mathlib.Core.Bool.{Bool}
@@ -10,7 +10,7 @@ use Rattle.sources.specs.Operands.{Env}
 use Rattle.lending.specs.Lent.{bankEnv, zeroed}
 use Rattle.execution.specs.declared.Stop.{Stop}
 use Rattle.execution.specs.Steps.{reached, byRows}
-use Rattle.launch.specs.Inner.Came.{Came}
+use Rattle.running.specs.Inner.Came.{Came}
 
 pub came-cleared : (file rows bank registers cl memory : List ℕ) (budget : ℕ) (stop : Stop) (r′ m′ : List ℕ) → cl ≡ zeroed registers
     → reached stop (state r′ m′) ≡ byRows file rows (envIn bank) budget 0 0 (state cl memory)

@@ -14,7 +14,7 @@ ghost use Rattle.registers.specs.Sets.{isIn};
 ghost use Rattle.effects.specs.Effect.{state};
 ghost use Rattle.lending.specs.Lent.{bankEnv, zeroed};
 ghost use Rattle.execution.specs.Steps.{reached, byRows};
-ghost use Rattle.launch.specs.Inner.Came.{Came};
+ghost use Rattle.running.specs.Inner.Came.{Came};
 
 // Clears the registers and carries out by the rows.
 fn carry_out_cleared(

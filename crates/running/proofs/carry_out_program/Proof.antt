@@ -1,9 +1,9 @@
 -- A program is carried out by the table that is made of it, over the bank that holds what it reads.
 -- Assumes nothing.
 use borrow.Author.Needs.{needs}
-use Rattle.launch.proofs.Launching.{came-by-bank}
-use Rattle.launch.proofs.carry_out_program.Statement.{statement}
-use Rattle.launch.proofs.carry_out_program.Tie as tie
+use Rattle.running.proofs.Cleared.{came-by-bank}
+use Rattle.running.proofs.carry_out_program.Statement.{statement}
+use Rattle.running.proofs.carry_out_program.Tie as tie
 
 pub carry-out-program-spec : {M : Type 1} → statement M
 carry-out-program-spec =

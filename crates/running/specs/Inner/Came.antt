@@ -1,4 +1,4 @@
--- What the parts of a launch leave to each other.
+-- What the parts leave to each other.
 -- Assumes nothing.
 use Prim.Native.Nat.{ℕ}
 use mathlib.Core.Path.{_≡_}
