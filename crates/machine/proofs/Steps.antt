@@ -14,7 +14,7 @@ use Rattle.blocks.specs.Table.{placeIn, rowIn}
 use Rattle.blocks.specs.Run.{Step, comesNext, step}
 use Rattle.blocks.specs.Control.{Machine, Op, PLAIN, ELSE, ENDIF, BGNLOOP, ENDLOOP, BRK, CONT, DEFAULT, ENDSWITCH, END, UIF, SWITCH, CASE, kindOf, opAt, opOf}
 use Rattle.blocks.proofs.Ops.{by-kind}
-use Prim.Native.Nat.{_+_, _-_, _<_, _≤_, suc, zero, ℕ}
+use Prim.Native.Nat.{_+_, _-_, _<_, _≤_, suc, ℕ}
 use mathlib.Core.Path.{_∙_, _≡_, ap, refl, sym}
 use mathlib.Core.Bool.{Bool}
 use mathlib.Core.List.{List}

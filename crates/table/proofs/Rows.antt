@@ -6,6 +6,7 @@ use mathlib.Core.List.{List, [], _∷_, _++_, append-nil, append-assoc}
 use Prim.Native.Nat.{ℕ, suc, _+_, _-_, _*_, _<_, _≤_}
 use native.Mathlib.Omega.{arith}
 use native.Mathlib.Numerals.{add-one}
+use native.Mathlib.Decide.{decLt}
 use lib.ListN.{length, getD}
 use lib.Seq.{sets, length-sets}
 use Rattle.blocks.specs.Control.{Op, PLAIN, ELSE, ENDIF, BGNLOOP, ENDLOOP, BRK, CONT, DEFAULT, ENDSWITCH, END, UIF, SWITCH, CASE, isLabel, closes, opOf}
@@ -20,7 +21,7 @@ use Rattle.rows.specs.Opened.{pastFirst, firstRow, openedBy, insideOf}
 use Rattle.rows.specs.declared.Opened.{Opened}
 use Rattle.table.specs.Inner.Rows.{wordsIn, singleIn, Room, Near, Opening}
 use Rattle.lists.proofs.Laid.{Laid, list-laid, laid-label}
-use Rattle.lists.proofs.Readers.{list-within, past-end, at-last, at-plain, at-opening, at-loop, at-switch, at-uif}
+use Rattle.lists.proofs.Readers.{list-within, past-end, at-none, at-last, at-plain, at-opening, at-loop, at-switch, at-uif}
 use Rattle.lists.proofs.Tests.{uif-kind, loop-kind, switch-kind, opening-kind, last-no-label}
 use Rattle.table.proofs.Words.{rows-then}
 
@@ -142,6 +143,23 @@ opens-block kinds n t h e k = record { there = h; opening = sym e ∙ k }
 
 pub end-found : (kinds : List ℕ) (n : ℕ) (o : Opened) → o ≡ openedBy (opIn kinds) n (blockIn kinds n) → o .end ≡ n + size (blockIn kinds n)
 end-found kinds n o found = rw found
+
+-- There is a second part only where the instruction opens a block.
+second-opens : (kinds : List ℕ) (n : ℕ) (o : Opened) → o ≡ openedBy (opIn kinds) n (blockIn kinds n) → o .second < o .end → Opening kinds n
+second-opens kinds n o found lt = on (decLt n (length kinds))
+  where
+    none : blockIn kinds n ≡ nil → ⊥
+    none b =
+        let same : o .second ≡ o .end = rw (found, b) (omega arith) in
+        omega (arith, same)
+
+    by : n < length kinds → (v : Bool) → opens (opIn kinds n) ≡ v → Opening kinds n
+    by h true e = record { there = h; opening = e }
+    by h false e = absurd (none (at-none kinds n h (opens (opIn kinds n)) refl e))
+
+    on : Dec (n < length kinds) → Opening kinds n
+    on (yes h) = by h (opens (opIn kinds n)) refl
+    on (no h) = absurd (none (rw (past-end kinds n (omega (arith, h)))))
 
 -- A second part starts after the instruction.
 pub second-falls : (kinds : List ℕ) (n m : ℕ) (o : Opened)
@@ -364,14 +382,26 @@ module _ (kinds places : List ℕ) (t : Targets) where
           let l : o .label ≡ firstLabel (opIn kinds) (listIn kinds (n + 1)) = rw (found, at-switch kinds n h k, add-one n) in
           open-switch n (o .end) w w1 h ends (o .label) l (rw j at wrote) u w2 inside k (rw (switch-kind (getD kinds n 0) k) at goes))
 
-      pub opens-twice : o .second < o .end
+      opens-both : o .second < o .end
           → (w3 : List ℕ)
           → w3 ≡ sets w2 (rowWords * o .second) (wordsIn kinds places u (o .second) (listIn kinds (o .second)))
           → w3 ≡ sets w (rowWords * n) (wordsIn kinds places t n (blockIn kinds n))
-      opens-twice lt w3 more =
+      opens-both lt w3 more =
           by-kinds (w3 ≡ sets w (rowWords * n) (wordsIn kinds places t n (blockIn kinds n)))
           (λ k. absurd (omega (arith, loop-once k)))
           (λ k.
           open-else n (o .end) w w1 h ends (o .second) w2 k (uif-first k) (uif-wrote k) (uif-inside k) lt w3
           (rw (goes, uif-kind (getD kinds n 0) k) at more))
           (λ k. absurd (omega (arith, switch-once k)))
+
+  -- The same for a block with a second part, which only a UIF opens.
+  pub opens-twice : (n : ℕ) (o : Opened) (w w1 : List ℕ)
+      → o ≡ openedBy (opIn kinds) n (blockIn kinds n)
+      → w1 ≡ sets w (rowWords * n) (getD places n 0 ∷ o .jump ∷ o .label ∷ [])
+      → (u : Targets) → u ≡ insideOf (opOf (getD kinds n 0)) (n + 1) (o .end) t
+      → (w2 : List ℕ) → w2 ≡ sets w1 (rowWords * (n + 1)) (wordsIn kinds places u (n + 1) (listIn kinds (n + 1)))
+      → o .second < o .end
+      → (w3 : List ℕ) → w3 ≡ sets w2 (rowWords * o .second) (wordsIn kinds places u (o .second) (listIn kinds (o .second)))
+      → w3 ≡ sets w (rowWords * n) (wordsIn kinds places t n (blockIn kinds n))
+  opens-twice n o w w1 found wrote u goes w2 inside lt w3 more =
+      opens-both n o w w1 (second-opens kinds n o found lt) found wrote u goes w2 inside lt w3 more

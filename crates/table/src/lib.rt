@@ -8,6 +8,7 @@ use blocks::control::is_opening;
 use format::records::LONGEST;
 use readers::byte_at;
 use records::size_at;
+use rows::Opened;
 use rows::block_at;
 use rows::inside;
 use rows::jump_of;
@@ -15,14 +16,16 @@ use rows::label_of;
 ghost use mathlib.Core.Path.{_≡_};
 ghost use mathlib.Core.List.{_∷_, []};
 ghost use Prim.Native.Nat.{_+_, _*_, _<_, _≤_};
-ghost use lib.ListN.{length};
+ghost use lib.ListN.{length, getD};
 ghost use lib.Seq.{sets};
 ghost use Rattle.format.specs.Records.{longest, next};
+ghost use Rattle.blocks.specs.Control.{opOf};
 ghost use Rattle.blocks.specs.Lists.{size};
 ghost use Rattle.blocks.specs.Run.{mostInstructions};
 ghost use Rattle.blocks.specs.Table.{rowWords};
 ghost use Rattle.table.specs.Prepared.{filled};
-ghost use Rattle.lists.specs.Lists.{listIn, blockIn};
+ghost use Rattle.lists.specs.Lists.{opIn, listIn, blockIn};
+ghost use Rattle.rows.specs.Opened.{openedBy, insideOf};
 ghost use Rattle.table.specs.Inner.Rows.{wordsIn, singleIn, Located, Room, Near, Opening};
 
 // Writes row n.
@@ -50,6 +53,28 @@ fn single(kinds: &[u8], places: &[u32], work: &mut [u32], n: usize, targets: Tar
         jump_of(kinds[n], targets),
         label_of(kinds, n),
     );
+}
+
+// Writes the row of instruction n, which opens a block. The block that it opens.
+fn first_row(kinds: &[u8], places: &[u32], work: &mut [u32], n: usize) -> Opened
+    requires { ⌜ Room (now kinds) (now places) (now work) ⌝ }
+    requires { ⌜ Opening (now kinds) n ⌝ }
+    ensures found { λ r. ⌜ r ≡ openedBy (opIn (now (kinds .entry))) n (blockIn (now (kinds .entry)) n) ⌝ }
+    ensures row { λ r. ⌜ now (work .exit) ≡ sets (now (work .entry)) (rowWords * n) (getD (now (places .entry)) n 0 ∷ r .jump ∷ r .label ∷ []) ⌝ }
+{
+    let found = block_at(kinds, n);
+    put_row(work, n, places[n], found.jump, found.label);
+    found
+}
+
+// The targets in the lists of the block that instruction n opens and that ends before `end`.
+fn targets_in(kinds: &[u8], n: usize, end: usize, targets: Targets) -> Targets
+    requires { ⌜ Near targets ⌝ }
+    requires { ⌜ (n < length (now kinds)) × (n + 1 ≤ mostInstructions) × (end ≤ mostInstructions) ⌝ }
+    ensures is { λ r. ⌜ r ≡ insideOf (opOf (getD (now (kinds .entry)) n 0)) (n + 1) end targets ⌝ }
+    ensures near { λ r. ⌜ Near r ⌝ }
+{
+    inside(kinds[n], n + 1, end, targets)
 }
 
 // Reads the list that starts at instruction n, and writes its rows.
@@ -81,10 +106,9 @@ fn opening(kinds: &[u8], places: &[u32], work: &mut [u32], n: usize, targets: Ta
     ensures past { λ r. ⌜ r ≡ n + size (blockIn (now (kinds .entry)) n) ⌝ }
     ensures rows { λ _. ⌜ now (work .exit) ≡ sets (now (work .entry)) (rowWords * n) (wordsIn (now (kinds .entry)) (now (places .entry)) targets n (blockIn (now (kinds .entry)) n)) ⌝ }
 {
-    let found = block_at(kinds, n);
-    put_row(work, n, places[n], found.jump, found.label);
+    let found = first_row(kinds, places, work, n);
     let first = n + 1;
-    let targets_inside = inside(kinds[n], first, found.end, targets);
+    let targets_inside = targets_in(kinds, n, found.end, targets);
     block(kinds, places, work, first, targets_inside);
     if found.second < found.end {
         block(kinds, places, work, found.second, targets_inside);

@@ -14,17 +14,16 @@ use Rattle.blocks.proofs.control.is_opening.Reads as is-opening-reads
 use Rattle.lists.specs.Lists.{listIn}
 use Rattle.table.specs.Inner.Rows.{wordsIn, Room}
 use Rattle.lists.proofs.Readers.{left-falls}
-use Rattle.table.proofs.Rows.{opens-block, length-kept, room-kept, end-near, next-near, opening-jump-near, opening-label-near, inside-near, end-found, second-falls, block-stop, block-last, block-plain, block-opening, opens-once, opens-twice}
+use Rattle.table.proofs.Rows.{opens-block, length-kept, room-kept, end-near, next-near, end-found, second-falls, block-stop, block-last, block-plain, block-opening, opens-once, opens-twice}
 use Rattle.table.proofs.block.Reads as block
 use Rattle.table.proofs.block.Kinds as block-kinds
 use Rattle.table.proofs.+block+opening.Lts-block as block-lts
 use Rattle.table.proofs.opening.Reads as opening
 use Rattle.table.proofs.opening.Kinds as opening-kinds
 use Rattle.table.proofs.+block+opening.Lts-opening as opening-lts
-use Rattle.rows.proofs.block_at.Reads as block-at-reads
-use Rattle.rows.proofs.inside.Reads as inside-reads
-use Rattle.table.proofs.put_row.Reads as put-row-reads
+use Rattle.table.proofs.first_row.Reads as first-row-reads
 use Rattle.table.proofs.single.Reads as single-reads
+use Rattle.table.proofs.targets_in.Reads as targets-in-reads
 use Rattle.table.proofs.+block+opening.{statement}
 use Rattle.table.proofs.+block+opening.Tie.{close}
 
@@ -60,12 +59,10 @@ block-claims t = (
 
 abbrev opening-claims : ℕ → opening-lts.Claims
 opening-claims t = (
-  block-at-reads.Asked,
-  block-at-reads.Learnt,
-  put-row-reads.Asked,
-  put-row-reads.Learnt,
-  inside-reads.Asked,
-  inside-reads.Learnt,
+  first-row-reads.Asked,
+  first-row-reads.Learnt,
+  targets-in-reads.Asked,
+  targets-in-reads.Learnt,
   block-below t,
   block.Post,
 )
@@ -101,20 +98,12 @@ pub +block+opening-spec : {M : Type 1} → statement M
     (λ c. search needs)
     (λ c. search (needs, block-stop)))
     λ t. opening-lts.spec (opening-claims t) (opening-at t) opening.Post
-    (λ c κs. search needs)
+    (λ c κs. (search needs, search needs))
     (λ c. search needs)
+    (λ c κs. (search needs, search (needs, next-near, end-near)))
+    (λ c κs. (search needs, (search (needs, room-kept), search needs)))
+    (λ c κs. (search (needs, second-falls), (search (needs, room-kept), search needs)))
     (λ c. search needs)
-    (λ c κs. search (needs, opening-jump-near, opening-label-near))
-    (λ c. search needs)
-    (λ c. search needs)
-    (λ c κs. search needs)
-    (λ c κs. (search needs, (search (needs, room-kept), search (needs, inside-near, next-near, end-near))))
-    (λ c κs.
-    let pre = c .before .before .before .before .before .before .before .before .before .before .before .before .before .before .before .before .before .before .pre in
-    (search (needs, second-falls, pre), (search (needs, room-kept), search (needs, inside-near, next-near, end-near))))
-    (λ c. search needs)
-    (λ c.
-    let pre = c .before .before .before .before .before .before .before .before .before .before .before .before .before .before .before .before .before .before .before .before .before .pre in
-    (search (needs, end-found), search (needs, opens-twice, pre)))
+    (λ c. (search (needs, end-found), search (needs, opens-twice)))
     (λ c. search needs)
     (λ c. (search (needs, end-found), search (needs, opens-once)))
