@@ -11,7 +11,7 @@ test:
 	scripts/test
 
 bench:
-	rt staticlib capi
+	rt staticlib ropebonnet
 	cd compare && cargo build --release --offline && target/release/compare bench
 	cd compare && cargo build --release --offline --features inlined --target-dir target/inlined && target/inlined/release/compare bench
 

@@ -3,7 +3,7 @@
 use std::env;
 use std::path::PathBuf;
 
-/// Names another archive than `../target/staticlib/libcapi.a`.
+/// Names another archive than `../target/staticlib/libropebonnet.a`.
 const OVERRIDE: &str = "ROPEBONNET_LIBRARY";
 
 fn main() {
@@ -11,7 +11,7 @@ fn main() {
     println!("cargo:rerun-if-env-changed={OVERRIDE}");
     let named = env::var_os(OVERRIDE).map(PathBuf::from);
     let package = PathBuf::from(env::var_os("CARGO_MANIFEST_DIR").expect("cargo sets it"));
-    let archive = named.clone().unwrap_or(package.join("../target/staticlib/libcapi.a"));
+    let archive = named.clone().unwrap_or(package.join("../target/staticlib/libropebonnet.a"));
     println!("cargo:rerun-if-changed={}", archive.display());
     if !archive.is_file() {
         assert!(named.is_none(), "{OVERRIDE} names no file: {}", archive.display());

@@ -1,6 +1,6 @@
 /* A host: checks, prepares and runs a program, and meets a refusal.
  *
- *     gcc -std=c11 -Wall -Wextra -Werror -Iinclude examples/host.c target/staticlib/libcapi.a -o host
+ *     gcc -std=c11 -Wall -Wextra -Werror -Iinclude examples/host.c target/staticlib/libropebonnet.a -o host
  */
 #include "ropebonnet.h"
 
