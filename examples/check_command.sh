@@ -18,11 +18,12 @@ gives 1 "halted 200000 2
 the budget of 200,000 steps is spent before END; instruction 2, counted from 0, comes next
 OUT 0 25 0 0 0" "" "$run" "$room/endless.bin"
 
-# Refused. The program by itself writes that on standard output.
+# Refused. The program by itself has no exit status, and writes a refusal on standard output, but no other complaint.
 short="refused 20 0
 inputs shorter than the program declares"
 gives 2 "" "$short" "$run" measure.bin
 gives 0 "$short" "" ../target/bin/tgsi_run measure.bin
+gives 0 "" "no-such-file: No such file or directory" ../target/bin/tgsi_run no-such-file
 : >"$room/empty"
 gives 2 "" "refused 13 0
 file ends without END" "$run" "$room/empty"
@@ -84,13 +85,13 @@ words 20000
 gives 0 "$comma" "inputs: 128 of 5000 words used" in_pieces "$room/words"
 
 # Help, asked for and not.
-help=$("$run" --help)
-case $help in
-    "usage: tgsi_run PROGRAM [INPUTS [CONSTANTS]], or tgsi_run --help (-h)
-Runs a program file with memory of 16,384 words of 0 and a budget of 200,000 steps."*"
-Exit status: 0 ended, 1 halted, 2 refused, 3 files or arguments that cannot be used."*) ;;
-    *) echo "help: $help"; exit 1 ;;
-esac
+help="usage: tgsi_run PROGRAM [INPUTS [CONSTANTS]], or tgsi_run --help (-h)
+Runs a program file with memory of 16,384 words of 0 and a budget of 200,000 steps.
+INPUTS and CONSTANTS are files of little-endian 32-bit words, four a register; 128 and 4,096 words can be used.
+Standard output: \`ended STEPS\`, or \`halted STEPS NEXT\` and that in words, and a line \`OUT i x y z w\` for each declared
+OUT register. Standard error: \`refused NUMBER PLACE\` and that in words, files that cannot be used, words that are not.
+Exit status: 0 ended, 1 halted, 2 refused, 3 files or arguments that cannot be used.
+Where it is not installed, target/bin/tgsi_run has exit status 0 always, and writes refusals on standard output."
 gives 0 "$help" "" "$run" --help
 gives 0 "$help" "" "$run" -h
 gives 3 "" "$help" "$run"
