@@ -1,16 +1,27 @@
 #!/bin/sh
 # Writes the bytes that stand in the second column of a table such as measure.txt:  sh bytes.sh TABLE > FILE
-# A line of the table is `place | bytes in hex | record | comment`; lines that start with # are left out. A place that is not
-# the number of bytes before it is an error.
+# A line of the table is `place | bytes in hex | record | comment`; lines that start with # are left out. A byte that is not two
+# hex digits, a line without bytes or without four columns, and a place that is not the number of bytes before it are errors:
+# the line is named on standard error, and nothing is written.
 set -eu
+export LC_ALL=C
+[ $# -eq 1 ] || { echo "usage: sh bytes.sh TABLE > FILE" >&2; exit 2; }
 octal=$(awk -F'|' '
-    function digit(c) { return index("0123456789ABCDEF", c) - 1 }
+    function digit(c) { return index("0123456789ABCDEF", toupper(c)) - 1 }
+    function fault(text) { print "bytes.sh: line " FNR ": " text > "/dev/stderr"; failed = 1; exit 1 }
     /^#/ { next }
-    $1 + 0 != at { print "line " NR ": place " $1 + 0 ", and " at " bytes stand before it" > "/dev/stderr"; exit 1 }
+    NF < 4 { fault("not four columns") }
+    $1 !~ /^ *[0-9]+ *$/ { fault("place \"" $1 "\" is not a number") }
+    $1 + 0 != at { fault("place " $1 + 0 ", and " at + 0 " bytes stand before it") }
     {
         n = split($2, byte, " ")
-        for (i = 1; i <= n; i++) printf "\\%03o", 16 * digit(substr(byte[i], 1, 1)) + digit(substr(byte[i], 2, 1))
+        if (n == 0) fault("no bytes")
+        for (i = 1; i <= n; i++) {
+            if (byte[i] !~ /^[0-9A-Fa-f][0-9A-Fa-f]$/) fault("byte \"" byte[i] "\" is not two hex digits")
+            printf "\\%03o", 16 * digit(substr(byte[i], 1, 1)) + digit(substr(byte[i], 2, 1))
+        }
         at += n
-    }' "$1")
+    }
+    END { if (!failed && at == 0) fault("no records before the end") }' <"$1")
 # shellcheck disable=SC2059  # the format is the bytes, as octal escapes
 printf "$octal"

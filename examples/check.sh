@@ -1,11 +1,38 @@
 #!/bin/sh
-# Tests the example and the program that runs it: the files are what their sources say, and target/bin/tgsi_run (made by
-# `rt check tgsi_run`) writes what README.md and the help promise.
+# Tests the example and the program that runs it: the files are what their sources say, bytes.sh and words.sh refuse what they
+# cannot write, and tgsi_run writes what README.md and the help promise, by itself (target/bin/tgsi_run, made by
+# `rt check tgsi_run`) and as the installed command.
 set -eu
 cd "$(dirname "$0")"
-run=../target/bin/tgsi_run
 room=$(mktemp -d)
 trap 'rm -rf "$room"' EXIT
+mkdir -p "$room/bin" "$room/libexec/ropebonnet"
+cp ../scripts/tgsi_run "$room/bin/tgsi_run"
+cp ../target/bin/tgsi_run "$room/libexec/ropebonnet/tgsi_run"
+run=$room/bin/tgsi_run
+tests=0
+
+# Lines with their ends, or nothing.
+lines() {
+    [ -z "$1" ] || printf '%s\n' "$1"
+}
+
+# `gives STATUS OUTPUT ERRORS COMMAND..`: a command's exit status, and what it writes on standard output and standard error.
+gives() {
+    wanted=$1
+    lines "$2" >"$room/wanted.out"
+    lines "$3" >"$room/wanted.errors"
+    shift 3
+    status=0
+    "$@" >"$room/out" 2>"$room/errors" || status=$?
+    if [ "$status" -ne "$wanted" ] || ! cmp -s "$room/out" "$room/wanted.out" || ! cmp -s "$room/errors" "$room/wanted.errors"; then
+        echo "$*: status $status, and $wanted is wanted"
+        diff "$room/out" "$room/wanted.out" || true
+        diff "$room/errors" "$room/wanted.errors" || true
+        exit 1
+    fi
+    tests=$((tests + 1))
+}
 
 # The files.
 sh bytes.sh measure.txt >"$room/measure.bin"
@@ -18,20 +45,36 @@ for file in measure.bin comma.words; do
     cmp "$file" "../crates/tgsi_run/data/$file"
 done
 
-# What the program writes for some arguments: `writes EXPECTED ARGUMENT..`
-writes() {
-    expected=$1
-    shift
-    found=$("$run" "$@")
-    [ "$found" = "$expected" ] || { printf 'tgsi_run %s\nexpected: %s\nfound: %s\n' "$*" "$expected" "$found"; exit 1; }
+# bytes.sh takes both cases of hex digits. Line 12 of the table is the immediate with the comma, at place 24.
+awk 'BEGIN { FS = OFS = "|" } !/^#/ { $2 = tolower($2) } { print }' measure.txt >"$room/lower"
+grep -q '| 02 2c 00' "$room/lower"
+sh bytes.sh "$room/lower" | cmp - measure.bin
+# `table_fault EDIT FAULT`: the table with an edit of line 12 is refused, and nothing is written.
+table_fault() {
+    sed "12$1" measure.txt >"$room/table"
+    gives 1 "" "bytes.sh: line 12: $2" sh bytes.sh "$room/table"
 }
+table_fault 's/2C/2G/' 'byte "2G" is not two hex digits'
+table_fault 's/2C/C/' 'byte "C" is not two hex digits'
+table_fault 's/2C/2C0/' 'byte "2C0" is not two hex digits'
+table_fault 's/| 02 [^|]*|/|  |/' 'no bytes'
+table_fault 's/|.*//' 'not four columns'
+table_fault 's/ 24/ 23/' 'place 23, and 24 bytes stand before it'
+table_fault 's/ 24/ x4/' 'place "   x4 " is not a number'
+grep '^#' measure.txt >"$room/table"
+gives 1 "" "bytes.sh: line 7: no records before the end" sh bytes.sh "$room/table"
+gives 2 "" "usage: sh bytes.sh TABLE > FILE" sh bytes.sh
+gives 2 "" "usage: sh words.sh TEXT > FILE" sh words.sh
+gives 2 "" "usage: sh words.sh TEXT > FILE" sh words.sh 2 5
+gives 1 "" "words.sh: more than 8 characters" sh words.sh 123456789
+gives 1 "" "words.sh: not ASCII" sh words.sh "2$(printf '\303\251')"
 
 # `measures TEXT TENTHS PLACE STEPS`: the results of README.md
 measures() {
     sh words.sh "$1" >"$room/words"
-    writes "ended $4
+    gives 0 "ended $4
 OUT 0 $2 0 0 0
-OUT 1 $3 0 0 0" measure.bin "$room/words"
+OUT 1 $3 0 0 0" "" "$run" measure.bin "$room/words"
 }
 measures 2,5 25 1 69
 measures 25 250 2 68
@@ -39,19 +82,10 @@ measures 2, 20 1 60
 measures ,5 5 0 50
 measures 13,75 137 2 88
 measures 12345678 123456780 8 182
+# What is typed is not checked: a point is a digit of value -2, and a second comma is passed over. A digit more than 25 takes
+# 6 steps of the search and 13 of the reading; a comma takes 3 steps less than the digit in its place.
+measures 2.5 1850 3 87
+measures 2,,5 2 1 66
 
-# What it says of files that it cannot use, and of a program that is too long.
-writes "no-such-file: cannot be opened" no-such-file
-writes "no-such-file: cannot be opened" measure.bin no-such-file
-writes ".: cannot be read" .
-printf abc >"$room/three"
-writes "$room/three: not a whole number of 32-bit words" measure.bin comma.words "$room/three"
-writes "refused 20 0
-inputs shorter than the program declares" measure.bin
-: >"$room/empty"
-writes "refused 13 0
-file ends without END" "$room/empty"
-head -c 65537 /dev/zero >"$room/long"
-writes "refused 1 0
-file over 65,536 bytes" "$room/long"
-echo "examples: ok"
+. ./check_command.sh
+echo "examples: ok, $tests tests of commands"

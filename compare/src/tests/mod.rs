@@ -3,6 +3,7 @@
 mod blocks;
 mod driver;
 mod example;
+mod listing;
 mod refusals;
 mod run_refusals;
 mod small_cases;

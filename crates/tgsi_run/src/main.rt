@@ -1,33 +1,29 @@
 // Runs a program file: tgsi_run PROGRAM [INPUTS [CONSTANTS]]. Memory is 16,384 words of 0 and the budget 200,000 steps.
+// Standard output has the outcome alone, whatever the files are called, so that the installed command can go by its first word.
+use libc::STDERR_FILENO;
+use libc::STDOUT_FILENO;
 use runner::Outcome;
 
+mod complaints;
 mod files;
+mod help;
+mod meanings;
 mod outputs;
-mod refusals;
+mod reading;
 mod values;
 
 const BUDGET: u32 = 200000;
 
-fn help() {
-    report::text(b"tgsi_run PROGRAM [INPUTS [CONSTANTS]]\n");
-    report::text(
-        b"Runs a program file with memory of 16,384 words of 0 and a budget of 200,000 steps.\n",
-    );
-    report::text(
-        b"INPUTS and CONSTANTS are files of little-endian 32-bit words, four a register.\n",
-    );
-    report::text(
-        b"Writes `ended STEPS`, `halted STEPS NEXT` or `refused NUMBER PLACE`, after a refusal what it means,\n",
-    );
-    report::text(b"and after a run a line `OUT i x y z w` for each declared OUT register.\n");
-}
-
-// The outcome, and the meaning of a refusal or the outputs of a run.
+// The outcome, what a refusal or a halt means, and the outputs of a run.
 fn tell(outcome: Outcome, program: &[u8], registers: &[u32]) {
     report::outcome_line(outcome);
     match outcome {
-        Outcome::Refused(number, _) => refusals::meaning_line(number),
-        _ => outputs::lines(program, registers),
+        Outcome::Ended(_) => outputs::lines(program, registers),
+        Outcome::Halted(_, next) => {
+            meanings::halt_line(next);
+            outputs::lines(program, registers);
+        }
+        Outcome::Refused(number, _) => meanings::refusal_line(number),
     }
 }
 
@@ -50,12 +46,12 @@ fn run(program: &[u8], inputs: &[u32], constants: &[u32]) {
 // Reads the inputs and the constants, and runs.
 fn run_with_words(program: &[u8]) {
     let mut inputs = [0u32; 128];
-    let i = files::read_words(2, &mut inputs);
+    let i = files::read_words(2, b"inputs", &mut inputs);
     if !i.whole {
         return;
     }
     let mut constants = [0u32; 4096];
-    let c = files::read_words(3, &mut constants);
+    let c = files::read_words(3, b"constants", &mut constants);
     if !c.whole {
         return;
     }
@@ -68,16 +64,23 @@ fn run_with_words(program: &[u8]) {
     );
 }
 
-fn main() {
-    let words = os::arg_count();
-    if (words < 2) | (4 < words) {
-        help();
-        return;
-    }
+// Reads the program, one byte more than a file may have, and runs it.
+fn run_named() {
     let mut program = [0u8; 65537];
-    let p = files::read_bytes(1, &mut program);
+    let p = files::read_bytes(1, b"program", &mut program);
     if p.whole {
         let n = p.count;
         run_with_words(&program[..n]);
+    }
+}
+
+fn main() {
+    let words = os::arg_count();
+    if help::is_asked_for() {
+        help::write(STDOUT_FILENO);
+    } else if (words < 2) | (4 < words) {
+        help::write(STDERR_FILENO);
+    } else {
+        run_named();
     }
 }

@@ -1,7 +1,7 @@
-// What the refusals say, in the words of document 01.
+// What a refusal and a halt say: a refusal in the words of document 01.
 use format::refusals as numbers;
 
-fn meaning(number: u8) {
+fn refusal(number: u8) {
     match number {
         numbers::TOO_LONG => report::text(b"file over 65,536 bytes"),
         numbers::BYTE_AFTER_END => report::text(b"a byte follows END"),
@@ -27,7 +27,13 @@ fn meaning(number: u8) {
     }
 }
 
-pub fn meaning_line(number: u8) {
-    meaning(number);
+pub fn refusal_line(number: u8) {
+    refusal(number);
     report::line_end();
+}
+
+pub fn halt_line(next: u32) {
+    report::text(b"the budget of 200,000 steps is spent before END; instruction");
+    report::next_number(next as u64);
+    report::text(b", counted from 0, comes next\n");
 }
