@@ -14,8 +14,9 @@ module _ (k d : ℕ) (e : d ≡ destinations (formOf k)) where
   pub four-fits : k < 2 ^ 8 → 4 * d < 2 ^ 8
   four-fits h = omega (arith, few-destinations k h)
 
-  pub first-fits : k < 2 ^ 8 → 1 + 4 * d < 2 ^ 8
-  first-fits h = omega (arith, few-destinations k h)
+  -- (of any b below 2: a program that does not count the kind's byte is refused at `first-is`)
+  pub first-fits : (b : ℕ) → b < 2 → k < 2 ^ 8 → b + 4 * d < 2 ^ 8
+  first-fits b l h = omega (arith, few-destinations k h)
 
   pub first-is : 1 + 4 * d ≡ firstSource k
   first-is = ap (λ (n : ℕ). 1 + 4 * n) e

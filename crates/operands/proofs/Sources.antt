@@ -69,8 +69,9 @@ module _ (declared : Registers) (words : ℕ) (s : Source) where
   unfolding sourceFound
   source-register k x i h e f = rw (← i, eq-eqb k 0 h, ne-eqb _ _ e) f
 
-pub written-by : (k kind f : ℕ) (r : Bool) → kind ≡ k → r ≡ destinationFile k f → r ≡ destinationFile kind f
-written-by k kind f r e q = rw e q
+-- The side of the rule that a kind picks. It stands in the conclusion, computed: no other side fits.
+pub written-by : (k kind f : ℕ) → kind ≡ k → destinationFile k f ≡ destinationFile kind f
+written-by k kind f e = rw e
 
 pub same-and : (a b c d : Bool) → a ≡ c → b ≡ d → (a && b) ≡ (c && d)
 same-and a b c d e f = cc

@@ -1,6 +1,6 @@
 -- The count of ones is the sum of the bits.
 use Rattle.bits.proofs.Counts.{popc-is}
-use borrow.Author.Needs.{needs}
+use native.Mathlib.Omega.{arith}
 use Rattle.bits.proofs.popc32.Statement.{statement}
 use Rattle.bits.proofs.popc32.Tie as tie
 
@@ -8,4 +8,4 @@ pub popc32-spec : {M : Type 1} → statement M
 popc32-spec =
     tie.close
     (tie.spec
-    (λ c. search (needs, popc-is 32)))
+    (λ c. popc-is 32 (c .args .a) (omega arith)))

@@ -1,4 +1,4 @@
--- Two bytes, the low one first.
+-- The number that starts k places on.
 -- Assumes nothing.
 use borrow.Author.Needs.{needs}
 use Rattle.readers.proofs.Places.{word16-is}
