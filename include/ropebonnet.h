@@ -1,7 +1,7 @@
 /* Ropebonnet: checks, prepares and runs TGSI integer programs over words the caller lends.
  *
  * The library allocates nothing, keeps no pointer after a call, and reads and writes only what is lent to it. A call
- * that refuses leaves every lent word as it was. A call returns for all arguments that keep the two rules below.
+ * that refuses leaves every lent word as it was. A call ends for all arguments that keep the rules of what is lent.
  *
  * What is lent. A buffer is a pointer and its length, in bytes for a file and in words for all else.
  *   - Words are 4 byte aligned, as every uint32_t is. A file may start at any byte. A pointer whose length is 0 may be
@@ -14,9 +14,9 @@
  * or in a signal handler that interrupts a call, if no call writes what another is lent.
  *
  * The machine. x86-64 with SSE2 and nothing newer, System V calling convention, position independent. The library
- * needs memcpy and memset and nothing else: no C library, no start-up code, no threads, no floating point. It uses the
- * red zone, the 128 bytes below the stack pointer: where interrupts are taken on the stack that it runs on, as in a
- * kernel, a call needs a stack of its own that they do not write to.
+ * needs memcpy and memset and nothing else: no C library, no start-up code, no threads, no floating point. It uses xmm
+ * registers, and the red zone, which is the 128 bytes below the stack pointer: where interrupts are taken on the stack
+ * that it runs on, as in a kernel, a call needs a stack of its own that they do not write to.
  */
 #ifndef ROPEBONNET_H
 #define ROPEBONNET_H

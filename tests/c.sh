@@ -23,21 +23,30 @@ tries() {
     "$room/$name" || die "$name: failed"
 }
 
-# The header as C89, C11 and C++, and a program in each.
+# The header as C89, C11 and C++, and a program in each. `as_language COMPILER STANDARD FLAG..`
+as_language() {
+    local compiler=$1 standard=$2
+    shift 2
+    "$compiler" "-std=$standard" -pedantic "${strict[@]}" "$@" tests/header.c -x none "$library" -o "$room/header"
+    "$room/header" || die "header.c as $standard by $compiler: failed"
+}
+
 header_alone() {
-    local standard
-    for standard in c89 c11; do
-        gcc "-std=$standard" -pedantic "${strict[@]}" tests/header.c "$library" -o "$room/header"
-        "$room/header" || die "header.c as $standard: failed"
+    local compiler
+    as_language gcc c89
+    as_language gcc c11
+    for compiler in g++ clang++; do
+        if command -v $compiler >"$room/where"; then
+            as_language $compiler c++98 -x c++
+            as_language $compiler c++17 -x c++
+            return
+        fi
     done
-    if ! command -v g++ >"$room/where"; then
-        echo "header.c as C++: not tried, there is no g++"
-        return
+    if echo 'class a;' | gcc -x c++ -fsyntax-only - 2>"$room/where"; then
+        gcc -x c++ -fsyntax-only "${strict[@]}" tests/header.c
+    else
+        echo "header.c as C++: not tried, there is no g++ or clang++, and gcc has no C++"
     fi
-    for standard in c++98 c++17; do
-        g++ "-std=$standard" -pedantic "${strict[@]}" -x c++ tests/header.c -x none "$library" -o "$room/header"
-        "$room/header" || die "header.c as $standard: failed"
-    done
 }
 
 # No macro of the header is without a test.

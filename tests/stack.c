@@ -1,7 +1,7 @@
 /* The header's bytes of stack. Each call is made on a stack of its own that was painted before, with programs that take
  * much: what lies between the caller's stack pointer and the lowest byte that changed was taken. A call that takes more
- * than the header says fails, and so does a figure that is over twice what any call took. Then each call is made
- * again on a stack of exactly so many bytes with a page below it that cannot be touched.
+ * than the header says fails, and so does a figure that leaves less than an eighth of it to spare or is over twice as
+ * much. Then each call is made again on a stack of so many bytes with a page below it that cannot be touched.
  *
  * Linked with -z now: looking up memcpy at its first call is not the library's.
  */
@@ -126,11 +126,8 @@ static void many_cases(void)
         immediate(&p, 16 * i + 4, 16 * i + 5, 16 * i + 6, 16 * i + 7);
     }
     control(&p, SWITCH, 249, TO_WWWW);
-    for (unsigned i = 1; i < 1000; i++) {
-        control(&p, CASE, (i - 1) / 4 % 249 + 1, (i - 1) % 4 * TO_YYYY);
-        if (i == 996) {
-            break;
-        }
+    for (unsigned i = 0; i < 4 * 249; i++) {
+        control(&p, CASE, i / 4 + 1, i % 4 * TO_YYYY);
     }
     byte(&p, ENDSWITCH);
     byte(&p, END);
@@ -308,6 +305,7 @@ static void expect_figure(uint8_t *stack, const struct figure *f)
     size_t bytes = most_taken(stack, f);
     printf("stack: %s takes %zu of %zu bytes\n", f->name, bytes, f->bytes);
     EXPECT(bytes <= f->bytes, "%s takes more than the header says", f->name);
+    EXPECT(bytes + bytes / 8 <= f->bytes, "%s has not an eighth to spare, as the header says", f->name);
     EXPECT(bytes > f->bytes / 2, "the header says over twice what %s takes", f->name);
 }
 
