@@ -342,7 +342,7 @@ int main(void)
     for (size_t i = 0; i < sizeof figures / sizeof figures[0]; i++) {
         expect_figure(stack, &figures[i]);
     }
-    for (size_t i = 0; i < sizeof figures / sizeof figures[0]; i++) {
+    for (size_t i = 0; faults == 0 && i < sizeof figures / sizeof figures[0]; i++) {
         just_enough(stack, &figures[i]);
     }
     return faults != 0;
