@@ -1,6 +1,9 @@
-/* A host: checks, prepares and runs a program, and meets a refusal.
+/* A host: checks, prepares and runs a program, asks what it needs, and meets a refusal.
  *
+ *     gcc -std=c11 -Wall -Wextra -Werror examples/host.c $(pkg-config --cflags --libs ropebonnet) -o host
  *     gcc -std=c11 -Wall -Wextra -Werror -Iinclude examples/host.c target/staticlib/libropebonnet.a -o host
+ *
+ * The first way after `make install`, the second without it.
  */
 #include "ropebonnet.h"
 
@@ -30,6 +33,19 @@ static void print_answer(const char *call, struct ropebonnet_answer answer)
     }
 }
 
+/* Whether the library is the one that the header describes. */
+static int is_as_described(void)
+{
+    return ropebonnet_version() == ROPEBONNET_VERSION && ropebonnet_row_words() == ROPEBONNET_WORK_WORDS;
+}
+
+static void print_needs(struct ropebonnet_needs needs)
+{
+    printf("needs: %u instructions, %u working, %u input and %u constant words, outputs %08X, memory %u\n",
+           (unsigned)needs.instructions, (unsigned)needs.work_words, (unsigned)needs.input_words,
+           (unsigned)needs.constant_words, (unsigned)needs.outputs, (unsigned)needs.memory);
+}
+
 /* Runs the program with a budget; the words lent are set up so that what the run changes can be seen. */
 static void run(uint32_t budget)
 {
@@ -47,7 +63,12 @@ static void run(uint32_t budget)
 int main(void)
 {
     uint32_t table[ROPEBONNET_WORK_WORDS * 2];
+    if (!is_as_described()) {
+        printf("the library is not the one that the header describes\n");
+        return 1;
+    }
     print_answer("check", ropebonnet_check(program, sizeof program));
+    print_needs(ropebonnet_needs(program, sizeof program));
     print_answer("prepare", ropebonnet_prepare(program, sizeof program, table, sizeof table / sizeof table[0]));
     printf("  table");
     for (size_t i = 0; i < sizeof table / sizeof table[0]; i++) {

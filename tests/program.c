@@ -1,0 +1,118 @@
+#include "program.h"
+
+#include <stdlib.h>
+
+void byte(struct program *p, unsigned value)
+{
+    if (p->length == sizeof p->bytes) {
+        abort();
+    }
+    p->bytes[p->length++] = (uint8_t)value;
+}
+
+void bytes(struct program *p, unsigned value, unsigned times)
+{
+    while (times-- > 0) {
+        byte(p, value);
+    }
+}
+
+static void number16(struct program *p, unsigned value)
+{
+    byte(p, value & 255);
+    byte(p, value >> 8);
+}
+
+static void number32(struct program *p, uint32_t value)
+{
+    number16(p, value & 65535);
+    number16(p, value >> 16);
+}
+
+void declare(struct program *p, unsigned file, unsigned first, unsigned last)
+{
+    byte(p, DECLARATION);
+    byte(p, file);
+    number16(p, first);
+    number16(p, last);
+}
+
+void immediate(struct program *p, uint32_t x, uint32_t y, uint32_t z, uint32_t w)
+{
+    byte(p, IMMEDIATE);
+    number32(p, x);
+    number32(p, y);
+    number32(p, z);
+    number32(p, w);
+}
+
+void destination(struct program *p, enum kind kind, unsigned file, unsigned index, unsigned mask)
+{
+    byte(p, kind);
+    byte(p, file);
+    number16(p, index);
+    byte(p, mask);
+}
+
+void source(struct program *p, unsigned file, unsigned index, unsigned swizzle, unsigned modifier)
+{
+    byte(p, file);
+    number16(p, index);
+    byte(p, swizzle);
+    byte(p, modifier);
+}
+
+void control(struct program *p, enum kind kind, unsigned index, unsigned swizzle)
+{
+    byte(p, kind);
+    source(p, IMM, index, swizzle, PLAIN);
+}
+
+void case_12(struct program *p)
+{
+    p->length = 0;
+    declare(p, OUT, 0, 0);
+    immediate(p, 25, 0, 0, 0);
+    destination(p, MOV, OUT, 0, X);
+    source(p, IMM, 0, TO_XYZW, PLAIN);
+    byte(p, END);
+}
+
+void declare_all(struct program *p)
+{
+    declare(p, CONST, 0, 1023);
+    declare(p, IN, 0, 31);
+    declare(p, OUT, 0, 31);
+    declare(p, TEMP, 0, 255);
+    declare(p, ADDR, 0, 0);
+    declare(p, MEM, 0, 0);
+    immediate(p, 1, 2, 3, 4);
+}
+
+static void from(struct program *p, unsigned file, unsigned index, unsigned modifier)
+{
+    source(p, file, index, TO_XYZW, modifier);
+}
+
+static void arithmetic(struct program *p)
+{
+    destination(p, UARL, ADDR, 0, XYZW), from(p, IMM, 0, PLAIN);
+    destination(p, UADD, TEMP, 0, XYZW), from(p, CONST, 3, NEGATE), from(p, TEMP, 1, BY_ADDR_X);
+    destination(p, UDIV, TEMP, 1, X), from(p, IN, 3, PLAIN), from(p, CONST, 1, BY_ADDR_W + NEGATE);
+    destination(p, U64DIV, TEMP, 2, XYZW), from(p, IN, 3, PLAIN), from(p, CONST, 1, PLAIN);
+    destination(p, I64DIV, TEMP, 3, XYZW), from(p, IMM, 0, PLAIN), from(p, CONST, 1, BY_ADDR_W);
+    destination(p, I64SHR, TEMP, 4, XYZW), from(p, IMM, 0, PLAIN), from(p, TEMP, 0, PLAIN);
+    destination(p, UMAD, TEMP, 5, XYZW), from(p, IN, 3, NEGATE), from(p, CONST, 1, BY_ADDR_X + NEGATE);
+    from(p, TEMP, 1, NEGATE);
+    destination(p, BFI, TEMP, 6, XYZW), from(p, IN, 3, PLAIN), from(p, CONST, 1, PLAIN);
+    from(p, TEMP, 1, PLAIN), from(p, IMM, 0, PLAIN);
+}
+
+void families(struct program *p)
+{
+    arithmetic(p);
+    destination(p, LOAD, TEMP, 7, XYZW), from(p, IN, 0, PLAIN);
+    destination(p, STORE, MEM, 0, XYZW), from(p, CONST, 0, PLAIN), from(p, IN, 0, PLAIN);
+    destination(p, ATOMUADD, OUT, 0, XYZW), from(p, CONST, 0, PLAIN), from(p, IN, 0, PLAIN);
+    destination(p, ATOMCAS, OUT, 1, XYZW), from(p, CONST, 0, PLAIN), from(p, IN, 0, PLAIN), from(p, CONST, 2, PLAIN);
+}
