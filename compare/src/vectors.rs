@@ -118,19 +118,25 @@ impl Line {
     }
 }
 
-/// Runs every recorded line, its sources as inputs, constants and immediates; the number of lines that hold.
+/// Runs one line, with its sources as inputs, as constants and as immediates.
+pub fn run_line(runner: &dyn Runner, text: &str) -> Result<(), String> {
+    let line = parse(text);
+    if line.sources.len() != line.kind.sources {
+        return Err(format!("a line with the wrong number of sources: {text}"));
+    }
+    for file in [IN, CONST, IMM] {
+        if !holds(runner, &line.expected(file)) {
+            return Err(format!("{}, sources from file {file}: {text}", runner.name()));
+        }
+    }
+    Ok(())
+}
+
+/// Runs every recorded line; the number of lines that hold.
 pub fn run_lines(runner: &dyn Runner) -> Result<usize, String> {
     let mut held = 0;
     for text in INSTRUCTIONS.lines().filter(|text| !text.starts_with('#')) {
-        let line = parse(text);
-        if line.sources.len() != line.kind.sources {
-            return Err(format!("a line with the wrong number of sources: {text}"));
-        }
-        for file in [IN, CONST, IMM] {
-            if !holds(runner, &line.expected(file)) {
-                return Err(format!("{}, sources from file {file}: {text}", runner.name()));
-            }
-        }
+        run_line(runner, text)?;
         held += 1;
     }
     Ok(held)

@@ -1,8 +1,11 @@
 //! Tests of the second interpreter and of the comparison itself.
 
 mod blocks;
+mod differences_document;
+mod documents;
 mod driver;
 mod example;
+mod format_document;
 mod listing;
 mod refusals;
 mod run_refusals;
