@@ -3,7 +3,7 @@
 use crate::case::Case;
 use crate::format::Part;
 use crate::kinds;
-use crate::runner::{Answer, Lent, Runner, REFUSED};
+use crate::runner::{Answer, Lent, Needs, Runner, REFUSED};
 use crate::write::hex;
 
 /// Words on either side of a lent buffer, which no call may change.
@@ -40,6 +40,7 @@ pub struct Outcome {
     prepare: Answer,
     pub run: Answer,
     records: Vec<Part>,
+    needs: Needs,
     file: Guarded<u8>,
     prepared: Guarded<u32>,
     /// Inputs, constants, registers, work and memory after the run.
@@ -66,7 +67,8 @@ pub fn outcome(runner: &dyn Runner, case: &Case) -> Outcome {
     };
     let run = runner.run(file.inner(), lent, case.budget);
     let records = case.records.iter().map(|&n| runner.record(file.inner(), n)).collect();
-    Outcome { check, prepare, run, records, file, prepared, words }
+    let needs = runner.needs(file.inner());
+    Outcome { check, prepare, run, records, needs, file, prepared, words }
 }
 
 /// The first difference of two outcomes, in words.
@@ -82,6 +84,9 @@ pub fn difference(a: &Outcome, b: &Outcome) -> Option<String> {
     }
     if a.records != b.records {
         return Some(format!("records {:?} and {:?}", a.records, b.records));
+    }
+    if a.needs != b.needs {
+        return Some(format!("needs {:?} and {:?}", a.needs, b.needs));
     }
     if a.file != b.file {
         return Some("the file's bytes are changed".into());

@@ -8,7 +8,8 @@ use crate::format::*;
 use crate::kinds::*;
 use crate::machine::{ADDR_WORDS, REGISTER_WORDS, TEMP_WORDS};
 use crate::reading::nest;
-use crate::runner::{Answer, Lent, Runner};
+use crate::run::Second;
+use crate::runner::{Answer, Lent, Needs, Runner};
 use crate::table::{self, Row};
 use crate::words::*;
 
@@ -49,6 +50,10 @@ impl Runner for Plain {
 
     fn record(&self, file: &[u8], n: usize) -> Part {
         record(file, n)
+    }
+
+    fn needs(&self, file: &[u8]) -> Needs {
+        Second::new().needs(file)
     }
 }
 

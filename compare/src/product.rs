@@ -1,7 +1,7 @@
 //! The proved library behind its C interface. The declarations repeat `include/ropebonnet.h`.
 
 use crate::format::Part;
-use crate::runner::{Answer, Lent, Runner};
+use crate::runner::{Answer, Lent, Needs, Runner};
 
 extern "C" {
     fn ropebonnet_check(file: *const u8, file_length: usize) -> Answer;
@@ -22,6 +22,7 @@ extern "C" {
         budget: u32,
     ) -> Answer;
     fn ropebonnet_record(file: *const u8, file_length: usize, n: usize) -> Part;
+    fn ropebonnet_needs(file: *const u8, file_length: usize) -> Needs;
 }
 
 pub struct Product;
@@ -62,5 +63,9 @@ impl Runner for Product {
 
     fn record(&self, file: &[u8], n: usize) -> Part {
         unsafe { ropebonnet_record(file.as_ptr(), file.len(), n) }
+    }
+
+    fn needs(&self, file: &[u8]) -> Needs {
+        unsafe { ropebonnet_needs(file.as_ptr(), file.len()) }
     }
 }

@@ -1,10 +1,10 @@
-//! The second interpreter's four calls, with the answers the C interface gives.
+//! The second interpreter's five calls, with the answers the C interface gives.
 
 use crate::check::{check, Program, Refusal};
-use crate::format::{self, Part, CONST, IN};
+use crate::format::{self, Part, CONST, IN, MEM, OUT};
 use crate::machine::{Machine, REGISTER_WORDS};
 use crate::reading::{nest, Reading, Stop, SwitchBrk};
-use crate::runner::{Answer, Lent, Runner};
+use crate::runner::{Answer, Lent, Needs, Runner};
 use crate::table::rows;
 use std::cell::RefCell;
 
@@ -26,6 +26,16 @@ impl Second {
         Second { switch_brk: SwitchBrk::LoopToo, ..Second::new() }
     }
 }
+
+const NOTHING: Needs = Needs {
+    answer: Answer { status: 0, first: 0, second: 0 },
+    instructions: 0,
+    work_words: 0,
+    input_words: 0,
+    constant_words: 0,
+    outputs: 0,
+    memory: 0,
+};
 
 fn refused(refusal: Refusal) -> Answer {
     Answer::refused(refusal.number, refusal.place as u32)
@@ -103,5 +113,22 @@ impl Runner for Second {
 
     fn record(&self, file: &[u8], n: usize) -> Part {
         format::record(file, n)
+    }
+
+    /// The least lengths that 20, 21 and 23 let pass, and of a refused file nothing.
+    fn needs(&self, file: &[u8]) -> Needs {
+        let answer = self.check(file);
+        let Ok(Program { declared, instructions, .. }) = check(file) else {
+            return Needs { answer, ..NOTHING };
+        };
+        Needs {
+            answer,
+            instructions: instructions.len() as u32,
+            work_words: 3 * instructions.len() as u32,
+            input_words: declared.words_needed(IN) as u32,
+            constant_words: declared.words_needed(CONST) as u32,
+            outputs: (0..32).filter(|&i| declared.has(OUT, i)).map(|i| 1 << i).sum(),
+            memory: declared.has_any(MEM) as u32,
+        }
     }
 }

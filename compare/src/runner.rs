@@ -1,4 +1,4 @@
-//! What the library and the second interpreter have in common: the four calls of the C interface.
+//! What the library and the second interpreter have in common: the five calls of the C interface.
 
 use crate::format::Part;
 
@@ -30,6 +30,19 @@ impl Answer {
     }
 }
 
+/// What a run of a file needs; as in `include/ropebonnet.h`, the first three words being an answer.
+#[repr(C)]
+#[derive(Clone, Copy, PartialEq, Eq, Debug)]
+pub struct Needs {
+    pub answer: Answer,
+    pub instructions: u32,
+    pub work_words: u32,
+    pub input_words: u32,
+    pub constant_words: u32,
+    pub outputs: u32,
+    pub memory: u32,
+}
+
 /// The words lent to a run.
 pub struct Lent<'a> {
     pub inputs: &'a [u32],
@@ -45,4 +58,5 @@ pub trait Runner {
     fn prepare(&self, file: &[u8], work: &mut [u32]) -> Answer;
     fn run(&self, file: &[u8], lent: Lent, budget: u32) -> Answer;
     fn record(&self, file: &[u8], n: usize) -> Part;
+    fn needs(&self, file: &[u8]) -> Needs;
 }

@@ -5,7 +5,7 @@ use crate::case::Case;
 use crate::compare::{difference, outcome, refusal_numbers, Counts};
 use crate::kinds;
 use crate::plain::Plain;
-use crate::runner::REFUSED;
+use crate::runner::{Needs, REFUSED};
 use crate::{control, vectors};
 
 const CASES: u64 = 20_000;
@@ -69,6 +69,7 @@ enum Fault {
     ClearsOnRefusal,
     TableRowTooMany,
     RecordStart,
+    NeedsOfAnotherFile,
 }
 
 impl Runner for Faulty {
@@ -110,6 +111,14 @@ impl Runner for Faulty {
         part.start -= (self.fault == Fault::RecordStart && part.length == 0 && !file.is_empty()) as usize;
         part
     }
+
+    fn needs(&self, file: &[u8]) -> Needs {
+        let needs = self.second.needs(file);
+        match self.fault {
+            Fault::NeedsOfAnotherFile => Needs { input_words: needs.constant_words, ..needs },
+            _ => needs,
+        }
+    }
 }
 
 fn finds(fault: Fault) -> bool {
@@ -130,6 +139,7 @@ fn faults_are_found() {
         Fault::ClearsOnRefusal,
         Fault::TableRowTooMany,
         Fault::RecordStart,
+        Fault::NeedsOfAnotherFile,
     ];
     for fault in faults {
         assert!(finds(fault), "{fault:?}");
