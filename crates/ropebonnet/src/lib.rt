@@ -6,14 +6,22 @@ use answers::checked;
 use answers::located;
 use answers::prepared;
 use answers::ran;
+use blocks::ROW_WORDS;
+use needs::Needs;
+use needs::needs_of;
 ghost use mathlib.Core.Path.{_≡_};
 ghost use Prim.Native.Nat.{_≤_};
 ghost use Rattle.format.specs.Records.{boundsOf};
+ghost use Rattle.blocks.specs.Table.{rowWords};
 ghost use Rattle.checker.specs.Check.{checkOf, toldOf};
+ghost use Rattle.needs.specs.Needs.{needsOf};
 ghost use Rattle.preparation.specs.Preparing.{prepareOf};
 ghost use Rattle.runner.specs.Answers.{lent};
 ghost use Rattle.runner.specs.Whole.{runOf};
 ghost use Rattle.answers.specs.Words.{toldWords, stepsIn, afterPreparing, afterRun, preparationInWords, resultInWords, partOf};
+ghost use Rattle.ropebonnet.specs.Version.{version};
+
+const VERSION: u32 = 10000;
 
 // Whether a file follows the rules.
 #[no_mangle]
@@ -55,4 +63,28 @@ pub extern "C" fn ropebonnet_record(file: &[u8], n: usize) -> Part
     ensures { λ r. ⌜ r ≡ partOf (boundsOf (now (file .entry)) n) ⌝ }
 {
     located(runner::record_bounds(file, n))
+}
+
+// What a run of a file needs to be lent, and what it declares of OUT and MEM.
+#[no_mangle]
+pub extern "C" fn ropebonnet_needs(file: &[u8]) -> Needs
+    ensures { λ r. ⌜ r ≡ needsOf (now (file .entry)) ⌝ }
+{
+    needs_of(file)
+}
+
+// The library's version, which a host compares with its header's.
+#[no_mangle]
+pub extern "C" fn ropebonnet_version() -> u32
+    ensures { λ r. ⌜ r ≡ version ⌝ }
+{
+    VERSION
+}
+
+// Words of a row of the table.
+#[no_mangle]
+pub extern "C" fn ropebonnet_row_words() -> u32
+    ensures { λ r. ⌜ r ≡ rowWords ⌝ }
+{
+    ROW_WORDS as u32
 }

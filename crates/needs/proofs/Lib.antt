@@ -1,0 +1,4 @@
+pub mod Outputs
+pub mod Reach
+pub mod Answering
+pub mod Enough
