@@ -6,6 +6,7 @@ use mathlib.Core.Bool.{Bool, true, false, not}
 use mathlib.Core.List.{List}
 use Prim.Native.Nat.{ℕ, _+_, _*_, _<_, _≤_}
 use native.Mathlib.Omega.{arith}
+use lib.Dec.{eqb}
 use lib.ListN.{length, getD}
 use borrow.Author.Tests.{lt-ltb, le-ltb, le-leb, lt-leb, eq-eqb, ne-eqb}
 use Rattle.format.specs.Kinds.{lengthOf}
@@ -60,20 +61,23 @@ module _ (s : Seen) (file : List ℕ) (at : ℕ) where
     unfolding recordFinding
     record-3 e = rw (← here, ← length, eq-eqb body 255 e)
 
-    module _ (known : body ≡ 255 → ⊥) (size : ℕ) (sized : size ≡ sizeAt file at) where
-      pub record-4 : size ≡ 0 → due bodyCut ≡ recordFinding s file at
+    module _ (known : body ≡ 255 → ⊥) (next : ℕ) (follows : next ≡ at + sizeAt file at) where
+      pub record-4 : next ≡ at → due bodyCut ≡ recordFinding s file at
       unfolding recordFinding
-      record-4 e = rw (← here, ← length, ne-eqb body 255 known, ← sized, eq-eqb size 0 e)
+      record-4 e = rw (← here, ← length, ne-eqb body 255 known, eq-eqb (sizeAt file at) 0 (omega arith))
 
-      module _ (whole : size ≡ 0 → ⊥) (f : Finding) where
+      module _ (whole : next ≡ at → ⊥) (f : Finding) where
+        sized : eqb (sizeAt file at) 0 ≡ false
+        sized = ne-eqb (sizeAt file at) 0 (λ z. whole (omega arith))
+
         pub record-declaration : kind ≡ 1 → f ≡ declarationFinding s file at → f ≡ recordFinding s file at
         unfolding recordFinding
-        record-declaration e q = rw (← here, ← length, ne-eqb body 255 known, ← sized, ne-eqb size 0 whole, eq-eqb kind 1 e) q
+        record-declaration e q = rw (← here, ← length, ne-eqb body 255 known, sized, eq-eqb kind 1 e) q
 
         pub record-immediate : kind ≡ 2 → f ≡ immediateFinding s file at → f ≡ recordFinding s file at
         unfolding recordFinding
-        record-immediate e q = rw (← here, ← length, ne-eqb body 255 known, ← sized, ne-eqb size 0 whole, e) q
+        record-immediate e q = rw (← here, ← length, ne-eqb body 255 known, sized, e) q
 
         pub record-instruction : (kind ≡ 1 → ⊥) → (kind ≡ 2 → ⊥) → f ≡ instructionFinding s file at → f ≡ recordFinding s file at
         unfolding recordFinding
-        record-instruction n1 n2 q = rw (← here, ← length, ne-eqb body 255 known, ← sized, ne-eqb size 0 whole, ne-eqb kind 1 n1, ne-eqb kind 2 n2) q
+        record-instruction n1 n2 q = rw (← here, ← length, ne-eqb body 255 known, sized, ne-eqb kind 1 n1, ne-eqb kind 2 n2) q

@@ -75,11 +75,11 @@ pub padded-same : (k n : ℕ) (words : List ℕ) → k ≡ n → Padded n words 
 padded-same k n words e h = rw e h
 
 -- The place after a record.
-module _ (file : List ℕ) (at size : ℕ) (sized : size ≡ sizeAt file at) where
-  pub next-is : at + size ≡ at + sizeAt file at
-  next-is = ap (λ (n : ℕ). at + n) sized
+pub next-is : (file : List ℕ) (at size : ℕ) → size ≡ sizeAt file at → at + size ≡ at + sizeAt file at
+next-is file at size sized = ap (λ (n : ℕ). at + n) sized
 
-  pub next-small : at ≤ length file → length file ≤ 65536 → at + size ≤ 65536
+module _ (file : List ℕ) (at next : ℕ) (follows : next ≡ at + sizeAt file at) where
+  pub next-small : at ≤ length file → length file ≤ 65536 → next ≤ 65536
   next-small h l = omega (arith, size-fits file at h)
 
 -- ---- Instructions

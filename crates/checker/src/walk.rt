@@ -204,16 +204,17 @@ fn instruction(
     nested_instruction(s, values, links, kind, word)
 }
 
-// The record at a place.
+// The record at a place, which is followed by the place `next`: by the same place where it is cut.
 fn record(
     s: State,
     file: &[u8],
     at: usize,
+    next: usize,
     words: &mut [u32; 1024],
     values: &mut [u32; 1024],
     links: &mut [u16; 2048],
 ) -> Taken
-    requires { ⌜ Sound s × (at ≤ length (now file)) × (length (now file) ≤ 65536) × Padded (s .program .immediates) (now words) × Trees (s .blocks) (now values) (now links) ⌝ }
+    requires { ⌜ Sound s × (at ≤ length (now file)) × (length (now file) ≤ 65536) × (next ≡ at + sizeAt (now file) at) × Padded (s .program .immediates) (now words) × Trees (s .blocks) (now values) (now links) ⌝ }
     ensures found { λ r. ⌜ findingOf r (now (words .exit)) (now (values .exit)) ≡ recordFinding (seen s (now (words .entry)) (now (values .entry))) (now (file .entry)) at ⌝ }
     ensures sound { λ r. ⌜ Sound (r .state) × Padded (r .state .program .immediates) (now (words .exit)) × Trees (r .state .blocks) (now (values .exit)) (now (links .exit)) ⌝ }
 {
@@ -224,16 +225,15 @@ fn record(
             state: s,
         };
     }
-    let size = records::size_at(file, at);
-    if size == 0 {
+    if next == at {
         return Taken {
             refusal: refusals::BODY_CUT,
             state: s,
         };
     }
     match kind {
-        1 => declaration(s, file, at, at + size),
-        2 => immediate(s, file, at, at + size, words),
+        1 => declaration(s, file, at, next),
+        2 => immediate(s, file, at, next, words),
         _ => instruction(s, file, at, words, values, links),
     }
 }
@@ -250,7 +250,7 @@ fn started() -> State
 
 // What an END at a place comes to that no rule refuses, in a file of this length.
 fn end_verdict(instructions: u32, at: usize, end: usize) -> Verdict
-    requires { ⌜ at < 65536 ⌝ }
+    requires { ⌜ at ≤ 65536 ⌝ }
     ensures { λ r. ⌜ r ≡ endOf instructions at end ⌝ }
 {
     if at + 1 < end {
@@ -261,7 +261,7 @@ fn end_verdict(instructions: u32, at: usize, end: usize) -> Verdict
 
 // How the walk goes on after a record of a kind at a place, of which this number was found, in a file of this length.
 fn way_after(refusal: u8, kind: u8, instructions: u32, at: usize, end: usize) -> Way
-    requires { ⌜ at < 65536 ⌝ }
+    requires { ⌜ at ≤ 65536 ⌝ }
     ensures { λ r. ⌜ r ≡ wayAfter refusal kind instructions at end ⌝ }
 {
     if refusal != 0 {
@@ -281,20 +281,21 @@ fn unended(end: usize) -> Verdict
     Verdict::Refused(refusals::NO_END, end as u32)
 }
 
-// The record at a place, and how the walk goes on after it.
+// The record at a place, which is followed by the place `next`, and how the walk goes on after it.
 fn take_turn(
     s: State,
     file: &[u8],
     at: usize,
+    next: usize,
     words: &mut [u32; 1024],
     values: &mut [u32; 1024],
     links: &mut [u16; 2048],
 ) -> Turn
-    requires { ⌜ Sound s × (at < length (now file)) × (length (now file) ≤ 65536) × Padded (s .program .immediates) (now words) × Trees (s .blocks) (now values) (now links) ⌝ }
+    requires { ⌜ Sound s × (at < length (now file)) × (length (now file) ≤ 65536) × (next ≡ at + sizeAt (now file) at) × Padded (s .program .immediates) (now words) × Trees (s .blocks) (now values) (now links) ⌝ }
     ensures turned { λ r. ⌜ Turned (seen s (now (words .entry)) (now (values .entry))) (now (file .entry)) at r (now (words .exit)) (now (values .exit)) ⌝ }
     ensures sound { λ r. ⌜ Sound (r .state) × Padded (r .state .program .immediates) (now (words .exit)) × Trees (r .state .blocks) (now (values .exit)) (now (links .exit)) ⌝ }
 {
-    let taken = record(s, file, at, words, values, links);
+    let taken = record(s, file, at, next, words, values, links);
     let state = taken.state;
     let program = state.program;
     let kind = readers::byte_at(file, at);
@@ -327,14 +328,15 @@ pub fn walk(
     let mut s = started();
     let mut at: usize = 0;
     while at < end {
-        let turn = take_turn(s, file, at, words, values, links);
+        let next = at + records::size_at(file, at);
+        let turn = take_turn(s, file, at, next, words, values, links);
         s = turn.state;
         let way = turn.way;
         if let Way::Ended(verdict) = way {
             let program = s.program;
             return Checked { verdict, program };
         }
-        at += records::size_at(file, at);
+        at = next;
     }
     let program = s.program;
     Checked {

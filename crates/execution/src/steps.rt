@@ -29,12 +29,10 @@ pub fn carry_out(
             return Stop::Halted(Report { steps }, n);
         }
         let next = step(file, rows, n as u32, bank, registers, memory);
+        steps += 1;
         match next {
-            Next::At(m) => {
-                n = m;
-                steps += 1;
-            }
-            Next::Ended => return Stop::Ended(Report { steps: steps + 1 }),
+            Next::At(m) => n = m,
+            Next::Ended => return Stop::Ended(Report { steps }),
         }
     }
     Stop::Halted(Report { steps }, n)

@@ -3,7 +3,7 @@
 use mathlib.Core.Path.{_≡_, refl}
 use mathlib.Core.List.{List, [], _∷_, _++_}
 use Prim.Native.Nat.{ℕ}
-use lib.ListN.{take, replicate}
+use lib.ListN.{length, take, replicate}
 use Rattle.words.specs.Word.{signed, word, lsb, umsb, imsb, least, greatest, outside, ubfe, ibfe, bfi}
 use Rattle.format.specs.Kinds.{lengthOf}
 use Rattle.format.specs.Fields.{word16, word32, destinationAt, sourceAt, declarationAt, caseWord}
@@ -15,7 +15,7 @@ use Rattle.blocks.specs.Table.{firstLabel, rows, table, wordsOf}
 use Rattle.table.specs.Prepared.{tableWords}
 use Rattle.registers.specs.Found.{sourceFound, operandsFound}
 use Rattle.registers.specs.Rules.{destinationRule, sourceRule, allOperands, declarationRule}
-use Rattle.checker.specs.Check.{walk, checkOf, follows, breaks}
+use Rattle.checker.specs.Check.{walk, checkOf, follows, breaks, toldOf}
 use Rattle.checker.specs.Findings.{withDeclaration, declarationFinding, withImmediate, immediateFinding, withInstruction, instructionFinding, recordFinding}
 use Rattle.results.specs.Arithmetic.{unary, binary, ternary, resultWord, wide, halves, countOr, wideOf}
 use Rattle.destinations.specs.Destinations.{components, ifMasked, masked, firstWord}
@@ -41,11 +41,11 @@ file13 =
     ∷ replicate 16 0
     ++ (0x83 ∷ 0x91 ∷ 6 ∷ 0 ∷ 0 ∷ 0 ∷ 0 ∷ 0x92 ∷ 6 ∷ 0 ∷ 0 ∷ 0 ∷ 0 ∷ 0x85 ∷ 0x88 ∷ 0x85 ∷ 0x84 ∷ 0x89 ∷ [])
 
--- A run over 1,156 registers of 7, words enough for the table, and no memory.
+-- A run over register words of 7, two more than the registers have, words enough for the table, and no memory.
 ran : List ℕ → ℕ → Result
-ran file budget = runOf file [] [] (lent (replicate 1156 7) (replicate 24 9) []) budget
+ran file budget = runOf file [] [] (lent (replicate 1158 7) (replicate 24 9) []) budget
 
--- An answer in numbers: which it is (0 ended, 1 halted, 2 refused, 3 prepared), and its values.
+-- An answer in numbers: which it is (0 ended, 1 halted, 2 refused, 3 accepted), and its values.
 numbers : Answer → List ℕ
 numbers (end report) = 0 ∷ report .steps ∷ []
 numbers (halt report next) = 1 ∷ report .steps ∷ next ∷ []
@@ -53,9 +53,13 @@ numbers (said (breaks number place)) = 2 ∷ number ∷ place ∷ []
 numbers (said (follows instructions)) = 3 ∷ instructions ∷ []
 numbers unanswered = []
 
--- The answer, and then OUT[0].x and OUT[0].y.
+-- The answer, and then every lent register word, from OUT[0].x on.
 shown : Result → List ℕ
-shown r = numbers (r .answer) ++ take 2 (r .lent .registers)
+shown r = numbers (r .answer) ++ r .lent .registers
+
+-- So many words that are cleared and stay so, and the two past the registers, which nothing clears.
+rest : ℕ → List ℕ
+rest zeros = replicate zeros 0 ++ (7 ∷ 7 ∷ [])
 
 -- Cases 1 to 10, by the kinds of the instructions.
 instructions : List (List ℕ)
@@ -72,10 +76,12 @@ instructions =
     ∷ (resultWord 0x23 0xFFFF_FFFF 0xFFFF_FFFF 0 0 ∷ resultWord 0x22 0xFFFF_FFFF 0xFFFF_FFFF 0 0 ∷ [])
     ∷ []
 
--- Cases 11 to 13: the empty file; the 34 bytes with their table and the budgets 2, 1 and 0; the BRK in a SWITCH in a loop.
+-- Cases 11 to 13: the empty file; a file's length, that it is accepted, its table, and its run by the budgets 2, 1 and 0; the BRK
+-- in a SWITCH in a loop.
 runs : List (List ℕ)
 runs =
     numbers (ran [] 5 .answer)
+    ∷ (length file12 ∷ numbers (said (toldOf (checkOf file12))))
     ∷ take 9 (ran file12 2 .lent .work)
     ∷ shown (ran file12 2)
     ∷ shown (ran file12 1)
@@ -96,11 +102,12 @@ cases : instructions ++ runs
     ∷ (0 ∷ 1 ∷ [])
     ∷ (0xFFFF_FFFE ∷ 0 ∷ [])
     ∷ (2 ∷ 13 ∷ 0 ∷ [])
+    ∷ (34 ∷ 3 ∷ 2 ∷ [])
     ∷ (23 ∷ 0 ∷ 0 ∷ 33 ∷ 0 ∷ 0 ∷ 9 ∷ 9 ∷ 9 ∷ [])
-    ∷ (0 ∷ 2 ∷ 25 ∷ 0 ∷ [])
-    ∷ (1 ∷ 1 ∷ 1 ∷ 25 ∷ 0 ∷ [])
-    ∷ (1 ∷ 0 ∷ 0 ∷ 0 ∷ 0 ∷ [])
-    ∷ (0 ∷ 5 ∷ 0 ∷ 0 ∷ [])
+    ∷ (0 ∷ 2 ∷ 25 ∷ rest 1155)
+    ∷ (1 ∷ 1 ∷ 1 ∷ 25 ∷ rest 1155)
+    ∷ (1 ∷ 0 ∷ 0 ∷ rest 1156)
+    ∷ (0 ∷ 5 ∷ rest 1156)
     ∷ []
-unfolding instructions file12 file13 ran numbers shown runs lengthOf word16 word32 destinationAt sourceAt declarationAt caseWord sizeAt next placeFrom opOf listFrom tableWords read past rounds reading firstLabel rows table wordsOf walk checkOf withDeclaration declarationFinding withImmediate immediateFinding sourceFound operandsFound withInstruction instructionFinding recordFinding destinationRule sourceRule allOperands declarationRule components registerWords registerOf taken sourceOf ifMasked masked firstWord unary resultWord resultWords nthSource sourcesOf familyOf recordEffect lentRefusal admissionOf cleared carriedOut runAdmitted runOf binary ternary wide halves countOr wideOf signed word lsb umsb imsb least greatest outside ubfe ibfe bfi
+unfolding instructions file12 file13 ran numbers shown rest runs lengthOf word16 word32 destinationAt sourceAt declarationAt caseWord sizeAt next placeFrom opOf listFrom tableWords read past rounds reading firstLabel rows table wordsOf walk checkOf withDeclaration declarationFinding withImmediate immediateFinding sourceFound operandsFound withInstruction instructionFinding recordFinding destinationRule sourceRule allOperands declarationRule components registerWords registerOf taken sourceOf ifMasked masked firstWord unary resultWord resultWords nthSource sourcesOf familyOf recordEffect lentRefusal admissionOf cleared carriedOut runAdmitted runOf binary ternary wide halves countOr wideOf signed word lsb umsb imsb least greatest outside ubfe ibfe bfi
 cases = refl

@@ -1,8 +1,7 @@
 -- An unknown kind, a cut record, and then what is found of each form.
 use borrow.Author.Needs.{needs}
-use Rattle.records.proofs.Walk.{walk-fits}
 use Rattle.checker.proofs.Records.{record-3, record-4, record-declaration, record-immediate, record-instruction}
-use Rattle.checker.proofs.Taking.{next-is, next-small, padded-same, trees-same}
+use Rattle.checker.proofs.Taking.{next-small, padded-same, trees-same}
 use Rattle.checker.proofs.walk.record.Statement.{statement}
 use Rattle.checker.proofs.walk.record.Tie as tie
 
@@ -13,12 +12,9 @@ record-spec =
     (λ c κs. search needs)
     (λ c κs. search needs)
     (λ c. (search (needs, record-3), (search needs, search needs, search needs)))
-    (λ c κs. search needs)
     (λ c. (search (needs, record-4), (search needs, search needs, search needs)))
-    (λ c. search (needs, walk-fits))
-    (λ c κs. search (needs, next-is, next-small))
-    (λ c. search (needs, walk-fits))
-    (λ c κs. search (needs, next-is, next-small))
+    (λ c κs. search (needs, next-small))
+    (λ c κs. search (needs, next-small))
     (λ c κs. search needs)
     (λ c. (search (needs, record-declaration, c .declaration .ensures .0), (search needs, search (needs, padded-same), search (needs, trees-same))))
     (λ c. (search (needs, record-immediate, c .immediate .ensures .0), (search needs, search needs, search (needs, trees-same))))

@@ -5,7 +5,7 @@ use lib.ListN.{length}
 use Rattle.records.proofs.Walk.{walk-fits, size-fits-by}
 use Rattle.nesting.specs.Inner.Held.{Trees}
 use Rattle.checker.specs.Inner.Held.{seen, Sound, Padded}
-use Rattle.checker.proofs.Taking.{padded-same}
+use Rattle.checker.proofs.Taking.{next-is, padded-same}
 use Rattle.checker.proofs.Walking.{Going, check-long, check-long-told, check-start, walk-stops, walk-tells, walk-goes, walk-less, ends-so, ends-told}
 use Rattle.checker.proofs.walk.walk.Statement.{statement}
 use Rattle.checker.proofs.walk.walk.Tie as tie
@@ -27,11 +27,11 @@ walk-spec =
     (λ c κs. search needs)
     (λ c. (search (needs, check-start, c .started .ensures .0), search needs, search (needs, padded-same), search (needs, c .started .ensures .3), search needs, search needs))
     (λ c κs. search needs)
+    (λ c. search (needs, walk-fits))
+    (λ c κs. search (needs, next-is))
     (search needs)
     (λ c. (search (needs, walk-stops), (search (needs, walk-tells), (search needs, search needs))))
     (search needs)
-    (λ c κs. search needs)
-    (λ c. search (needs, walk-fits))
     (λ c. search (needs, walk-less))
     (λ c. (search (needs, walk-goes), search needs, search needs, search needs, search (needs, size-fits-by), search needs))
     (λ c κs. search needs)

@@ -31,7 +31,7 @@ carry-out-spec =
     (λ c. search (needs, leads-out))
     (omega arith) (search needs) (search needs) (omega arith) (omega arith)
     (λ c. search (needs, goes-on))
-    (search needs) (omega arith) (search needs) (search needs)
+    (search needs) (search needs) (search needs)
     (λ c. search (needs, comes-to-end))
     (search needs) (search needs)
     (λ c. search (needs, is-spent)))
