@@ -1,7 +1,7 @@
 -- The run by the table is the block reading. The idea: the run from a list's first instruction is the run that goes on from
 -- where the reading of the list stopped, list by list; a loop's rounds are a second induction, on their bound.
 -- Assumes nothing.
-use mathlib.Core.Path.{_≡_, refl, sym, _∙_, subst, fun-ext}
+use mathlib.Core.Path.{_≡_, refl, sym, ap, _∙_, subst, fun-ext}
 use Prim.Native.Nat.{ℕ, zero, suc, _+_, _-_, _≤_, _<_}
 use native.Mathlib.Omega.{arith}
 use native.Mathlib.Nat.{sub-zero}
@@ -357,9 +357,9 @@ module _ {S : Type 0} (M M′ : Machine S) (T : ℕ → Row) (budget : ℕ) wher
         on : c < budget → (z : Close) → T n ≡ rowOf op (closing z) t nil
             → Sim (exits (partOf C z) t e) (suc c) (goes (closing z) c n s)
             (next (single M′ budget (closing z) (suc c) (M′ .effect n s)) (reads nil))
-        on h′ atElse row = record { runs = rw row; bound = omega arith }
+        on h′ atElse row = record { runs = ap (λ (r : Row). go (suc c) (r .jump) (M′ .effect n s)) row; bound = omega arith }
         on h′ atEndif row = record { runs = rw he; bound = omega arith }
-        on h′ atEndloop row = record { runs = rw row; bound = omega arith }
+        on h′ atEndloop row = record { runs = ap (λ (r : Row). go (suc c) (r .jump) (M′ .effect n s)) row; bound = omega arith }
         on h′ atEndswitch row = record { runs = rw he; bound = omega arith }
         on h′ atEnd row = record { runs = refl; bound = tt }
 

@@ -48,10 +48,7 @@ word-is k o (suc (suc zero)) w h e = e
 word-is k o (suc (suc (suc zero))) w h e = e
 word-is k o (suc (suc (suc (suc i)))) w h e = absurd (omega arith)
 
-pub word-placed : (first mask k : ℕ) (o : List (List ℕ)) (r l : List ℕ) (i p q x y w : ℕ) (t : Bool) → t ≡ eqb (bit mask i) 1 → t ≡ true → i < 4
-    → p ≡ sourceWord o 0 i → q ≡ sourceWord o 1 i → x ≡ sourceWord o 2 i → y ≡ sourceWord o 3 i → w ≡ resultWord k p q x y
-    → l ≡ set r (first + i) w
-    → l ≡ ifMasked mask i (placed first (resultWords k o)) r
-unfolding ifMasked
-word-placed first mask k o r l i p q x y w t et h b ep eq ex ey ew el =
-    rw (← et, h) (el ∙ ap (set r (first + i)) (word-is k o i w b (rw (← ep, ← eq, ← ex, ← ey) ew)))
+pub word-placed : (first k : ℕ) (o : List (List ℕ)) (r l : List ℕ) (i p q x y w : ℕ) → l ≡ set r (first + i) w → w ≡ resultWord k p q x y
+    → p ≡ sourceWord o 0 i → q ≡ sourceWord o 1 i → x ≡ sourceWord o 2 i → y ≡ sourceWord o 3 i → i < 4
+    → l ≡ placed first (resultWords k o) i r
+word-placed first k o r l i p q x y w el ew ep eq ex ey b = el ∙ ap (set r (first + i)) (word-is k o i w b (rw (← ep, ← eq, ← ex, ← ey) ew))

@@ -22,9 +22,10 @@ pub fn load(memory: &[u32], address: usize) -> u32
 pub fn store(memory: &mut [u32], address: usize, word: u32)
     ensures { λ r. ⌜ now (memory .exit) ≡ stored (now (memory .entry)) address word ⌝ }
 {
-    if address % 4 == 0 {
-        set_word(memory, address / 4, word);
+    if address % 4 != 0 {
+        return;
     }
+    set_word(memory, address / 4, word);
 }
 
 // The four words from an address on.

@@ -1,10 +1,11 @@
 -- Families of instructions: an arm of a match on the kind is the family's table at that kind, and the default arm is met by
 -- none of them.
 -- Assumes nothing.
-use Rattle.results.specs.Arithmetic.{countOr, halves, pair, wide, wideOf, wideUnary, wideUnaryOf, resultWord}
+use Rattle.results.specs.Arithmetic.{atomic, atomics, binary, countOr, halves, pair, resultWord, ternary, unary, wide, wideOf, wides, wideUnaries, wideUnary, wideUnaryOf}
+use Rattle.words.specs.Word.{bfi}
 use Rattle.format.specs.Kinds.{within}
-use Prim.Native.Nat.{_+_, _<_, _≤_, suc, zero, ℕ}
-use mathlib.Core.Path.{_≡_, refl}
+use Prim.Native.Nat.{_+_, _-_, _<_, _≤_, suc, zero, ℕ}
+use mathlib.Core.Path.{_∙_, _≡_, refl}
 use mathlib.Core.Bool.{Bool, cond, false, not, true}
 use mathlib.Core.List.{List}
 use native.Mathlib.Omega.{arith}
@@ -16,14 +17,35 @@ use lib.ListN.{getD}
 
 -- ---- arms
 
-pub arm₁ : (f : ℕ → ℕ → ℕ) (n k a r : ℕ) → k ≡ n → r ≡ f n a → r ≡ f k a
-arm₁ f n k a r h e = rw h e
+-- Kind k is n: what is asked is the entry of the family's table, which is no result of a kind again.
+pub wide-unary-at : (n : ℕ) → ((a : ℕ) → getD (wideUnaries a) (n - 0x1B) 0 ≡ wideUnary n a)
+    → (k a r : ℕ) → k ≡ n → r ≡ getD (wideUnaries a) (n - 0x1B) 0 → r ≡ wideUnary k a
+wide-unary-at n is k a r h e = rw h (e ∙ is a)
 
-pub arm₂ : (f : ℕ → ℕ → ℕ → ℕ) (n k a b r : ℕ) → k ≡ n → r ≡ f n a b → r ≡ f k a b
-arm₂ f n k a b r h e = rw h e
+pub wide-at : (n : ℕ) → ((a b : ℕ) → getD (wides a b) (n - 0x40) 0 ≡ wide n a b)
+    → (k a b r : ℕ) → k ≡ n → r ≡ getD (wides a b) (n - 0x40) 0 → r ≡ wide k a b
+wide-at n is k a b r h e = rw h (e ∙ is a b)
 
-pub arm-word : (n k a b c d r : ℕ) → k ≡ n → r ≡ resultWord n a b c d → r ≡ resultWord k a b c d
-arm-word n k a b c d r h e = rw h e
+pub atomic-at : (n : ℕ) → ((a b : ℕ) → getD (atomics a b) (n - 0x56) 0 ≡ atomic n a b)
+    → (k a b r : ℕ) → k ≡ n → r ≡ getD (atomics a b) (n - 0x56) 0 → r ≡ atomic k a b
+atomic-at n is k a b r h e = rw h (e ∙ is a b)
+
+module _ (n k : ℕ) (h : k ≡ n) (r a b c d : ℕ) where
+  pub unary-at : within 0x10 0x1A n ≡ true → r ≡ unary n a → r ≡ resultWord k a b c d
+  unfolding resultWord
+  unary-at i e = rw (h, i) e
+
+  pub binary-at : within 0x10 0x1A n ≡ false → within 0x20 0x37 n ≡ true → r ≡ binary n a b → r ≡ resultWord k a b c d
+  unfolding resultWord
+  binary-at o i e = rw (h, o, i) e
+
+  pub ternary-at : within 0x10 0x1A n ≡ false → within 0x20 0x37 n ≡ false → within 0x60 0x63 n ≡ true → r ≡ ternary n a b c → r ≡ resultWord k a b c d
+  unfolding resultWord
+  ternary-at o p i e = rw (h, o, p, i) e
+
+pub bfi-is : (k a b c d r : ℕ) → k ≡ 0x70 → r ≡ bfi 32 a b c d → r ≡ resultWord k a b c d
+unfolding resultWord
+bfi-is k a b c d r h e = rw h e
 
 -- a comparison's flag
 module _ (t u : Bool) (r : ℕ) (e : t ≡ u) where
@@ -86,15 +108,22 @@ module _ (k n v : ℕ) where
   count-above a b = simp (le-leb 0x4A k a, lt-leb k 0x4C b)
 
 pub wide-unary-is : (k : ℕ) (a : List ℕ) (p q v w : ℕ) (l : List ℕ)
-    → p ≡ pair (getD a 0 0) (getD a 1 0) → v ≡ wideUnary k p
-    → q ≡ pair (getD a 2 0) (getD a 3 0) → w ≡ wideUnary k q
-    → l ≡ halves v w → l ≡ wideUnaryOf k a
+    → l ≡ halves v w → v ≡ wideUnary k p → w ≡ wideUnary k q
+    → p ≡ pair (getD a 0 0) (getD a 1 0) → q ≡ pair (getD a 2 0) (getD a 3 0)
+    → l ≡ wideUnaryOf k a
 unfolding wideUnaryOf
-wide-unary-is k a p q v w l ep ev eq ew el = cc
+wide-unary-is k a p q v w l el ev ew ep eq = cc
 
-pub wide-is : (k : ℕ) (a b : List ℕ) (p q m n x y v w : ℕ) (l : List ℕ)
-    → p ≡ pair (getD a 0 0) (getD a 1 0) → m ≡ pair (getD b 0 0) (getD b 1 0) → x ≡ countOr k (getD b 0 0) m → v ≡ wide k p x
-    → q ≡ pair (getD a 2 0) (getD a 3 0) → n ≡ pair (getD b 2 0) (getD b 3 0) → y ≡ countOr k (getD b 1 0) n → w ≡ wide k q y
-    → l ≡ halves v w → l ≡ wideOf k a b
-unfolding wideOf
-wide-is k a b p q m n x y v w l ep em ex ev eq en ey ew el = cc
+module _ (k : ℕ) (a b : List ℕ) where
+  -- the value of words i and j, whose shift count is word c
+  pub halfOf : ℕ → ℕ → ℕ → ℕ
+  halfOf c i j = wide k (pair (getD a i 0) (getD a j 0)) (countOr k (getD b c 0) (pair (getD b i 0) (getD b j 0)))
+
+  pub half-is : (c i j p m x v : ℕ) → v ≡ wide k p x → x ≡ countOr k (getD b c 0) m
+      → m ≡ pair (getD b i 0) (getD b j 0) → p ≡ pair (getD a i 0) (getD a j 0) → v ≡ halfOf c i j
+  unfolding halfOf
+  half-is c i j p m x v ev ex em ep = cc
+
+  pub wide-is : (v w : ℕ) (l : List ℕ) → l ≡ halves v w → v ≡ halfOf 0 0 1 → w ≡ halfOf 1 2 3 → l ≡ wideOf k a b
+  unfolding wideOf halfOf
+  wide-is v w l el ev ew = cc

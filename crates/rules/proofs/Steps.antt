@@ -15,9 +15,10 @@ use Rattle.rules.specs.Kept.{nestingKept, switchKept, nestingRefusal}
 
 -- ---- The rules, by the kind of the instruction
 
--- An arm of kind k.
-pub kept-by : (k kind : ℕ) (b : Blocks) (r : Bool) → kind ≡ k → r ≡ nestingKept (opOf k) b → r ≡ nestingKept (opOf kind) b
-kept-by k kind b r e q = rw e q
+-- An arm of kind k, which asks f.
+pub kept-by : (k : ℕ) (f : Blocks → Bool) → ((b : Blocks) → f b ≡ nestingKept (opOf k) b)
+    → (kind : ℕ) (b : Blocks) (r : Bool) → kind ≡ k → r ≡ f b → r ≡ nestingKept (opOf kind) b
+kept-by k f is kind b r e q = rw (e, q) (is b)
 
 pub nested-anyway : (b : Blocks) (kind : ℕ) → (kind ≡ 0x81 → ⊥) → (kind ≡ 0x82 → ⊥) → (kind ≡ 0x84 → ⊥) → (kind ≡ 0x85 → ⊥)
     → (kind ≡ 0x86 → ⊥) → (kind ≡ 0x87 → ⊥) → (kind ≡ 0x88 → ⊥) → (kind ≡ 0x89 → ⊥) → (kind ≡ 0x92 → ⊥) → true ≡ nestingKept (opOf kind) b

@@ -99,6 +99,27 @@ module _ (immediates file rows : List ℕ) (x f m other w found p : ℕ)
     pub label-found : (found ≡ 0 → ⊥) → walk op value (rowIn rows) f x m other ≡ w → found ≡ w
     label-found n e = walk-found op value (rowIn rows) x f m other w found h d at-place n e
 
-    pub label-on : (k o n : ℕ) → found ≡ 0 → k ≡ getD file p 0 → o ≡ cond (is DEFAULT (opOf k)) (suc m) other → n ≡ rowIn rows m .label
-        → walk op value (rowIn rows) f x m other ≡ w → walk op value (rowIn rows) (f - 1) x n o ≡ w
-    label-on k o n z ek eo en e = walk-on op value (rowIn rows) x f m other w found o n h d at-place z (rw (← ep, ← ek) eo) en e
+-- A label was passed: the walk from the next one comes to w.
+pub record Passed (immediates file rows : List ℕ) (x f m o w : ℕ) : Type 0 where
+  pub onward : walk (opsOf file (placeIn rows)) (casesOf immediates file (placeIn rows)) (rowIn rows) (f - 1) x (rowIn rows m .label) o ≡ w
+
+pub label-passed : (immediates file rows : List ℕ) (x f m other w found p k o : ℕ)
+    → walk (opsOf file (placeIn rows)) (casesOf immediates file (placeIn rows)) (rowIn rows) f x m other ≡ w
+    → 0 < f
+    → (m ≡ 0 → ⊥)
+    → o ≡ cond (is DEFAULT (opOf k)) (suc m) other
+    → k ≡ getD file p 0
+    → p ≡ placeIn rows m
+    → found ≡ cond (isCaseAt immediates file p x) (suc m) 0
+    → found ≡ 0
+    → Passed immediates file rows x f m o w
+label-passed immediates file rows x f m other w found p k o e h d eo ek ep ef z =
+    record {
+      onward =
+          walk-on (opsOf file (placeIn rows)) (casesOf immediates file (placeIn rows)) (rowIn rows) x f m other w found o (rowIn rows m .label) h d
+          (at-place immediates file rows x f m other w found p h d ep ef) z (rw (← ep, ← ek) eo) refl e;
+    }
+
+pub label-on : (immediates file rows : List ℕ) (x f m w o n : ℕ) → n ≡ rowIn rows m .label → Passed immediates file rows x f m o w
+    → walk (opsOf file (placeIn rows)) (casesOf immediates file (placeIn rows)) (rowIn rows) (f - 1) x n o ≡ w
+label-on immediates file rows x f m w o n en passed = rw en (passed .onward)

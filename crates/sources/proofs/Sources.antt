@@ -115,25 +115,28 @@ selected-below swizzle i k e = rw e (mod-lt (swizzle / 2 ^ (2 * i)) (omega arith
 pub selected-word : (l : List ℕ) (first swizzle i k w : ℕ) → k ≡ selected swizzle i → w ≡ getD l (first + k) 0 → w ≡ wordIn l (first + selected swizzle i)
 selected-word l first swizzle i k w ek ew = ew ∙ ap (λ (n : ℕ). getD l (first + n) 0) ek
 
-module _ (l : List ℕ) (first : ℕ) (s : Source) (x y z w : ℕ)
-    (ex : x ≡ wordIn l (first + selected (s .swizzle) 0)) (ey : y ≡ wordIn l (first + selected (s .swizzle) 1))
-    (ez : z ≡ wordIn l (first + selected (s .swizzle) 2)) (ew : w ≡ wordIn l (first + selected (s .swizzle) 3))
-    (t : Bool) (et : t ≡ negates s)
-  where
-    word : (c : ℕ) → wordIn l (first + selected (s .swizzle) c) ≡ wordIn (fourFrom (wordIn l) first) (selected (s .swizzle) c)
-    word c = four-word (wordIn l) first (selected (s .swizzle) c) (selected-below (s .swizzle) c (selected (s .swizzle) c) refl)
+module _ (l : List ℕ) (first : ℕ) (s : Source) where
+  -- component c of what the source takes
+  pub component : ℕ → ℕ
+  component c = negated s (wordIn (fourFrom (wordIn l) first) (selected (s .swizzle) c))
 
-    -- the four components, which all go the same way
-    by-way : (f : ℕ → ℕ) → ((v : ℕ) → negated s v ≡ f v) → f x ∷ f y ∷ f z ∷ f w ∷ [] ≡ taken (fourFrom (wordIn l) first) s
-    unfolding taken components
-    by-way f h = rw (ex, ey, ez, ew, word 0, word 1, word 2, word 3) (sym (simp h))
+  pub four-taken : (x y z w : ℕ) → x ≡ component 0 → y ≡ component 1 → z ≡ component 2 → w ≡ component 3
+      → x ∷ y ∷ z ∷ w ∷ [] ≡ taken (fourFrom (wordIn l) first) s
+  unfolding taken components component
+  four-taken x y z w ex ey ez ew = cc
 
-    pub pick-plain : t ≡ false → x ∷ y ∷ z ∷ w ∷ [] ≡ taken (fourFrom (wordIn l) first) s
-    pick-plain h = by-way (λ v. v) (λ v. rw (← et, h))
+  -- the word that is selected for it, negated or not
+  module _ (c v : ℕ) (t : Bool) (et : t ≡ negates s) where
+    word : v ≡ wordIn l (first + selected (s .swizzle) c) → v ≡ wordIn (fourFrom (wordIn l) first) (selected (s .swizzle) c)
+    word e = e ∙ four-word (wordIn l) first (selected (s .swizzle) c) (selected-below (s .swizzle) c (selected (s .swizzle) c) refl)
 
-    pub pick-negated : (x′ y′ z′ w′ : ℕ) → t ≡ true → x′ ≡ neg 32 x → y′ ≡ neg 32 y → z′ ≡ neg 32 z → w′ ≡ neg 32 w
-        → x′ ∷ y′ ∷ z′ ∷ w′ ∷ [] ≡ taken (fourFrom (wordIn l) first) s
-    pick-negated x′ y′ z′ w′ h fx fy fz fw = rw (fx, fy, fz, fw) (by-way (neg 32) (λ v. rw (← et, h)))
+    pub component-plain : t ≡ false → v ≡ wordIn l (first + selected (s .swizzle) c) → v ≡ component c
+    unfolding component
+    component-plain h e = rw (← et, h) (word e)
+
+    pub component-negated : (n : ℕ) → n ≡ neg 32 v → t ≡ true → v ≡ wordIn l (first + selected (s .swizzle) c) → n ≡ component c
+    unfolding component
+    component-negated n en h e = rw (← et, h) (en ∙ ap (neg 32) (word e))
 
 -- ---- the register of each file
 

@@ -8,6 +8,6 @@ pub store-spec : {M : Type 1} → statement M
 store-spec =
     tie.close
     (tie.spec
+    (λ c. search (needs, stored-misaligned))
     (search needs) (search needs)
-    (λ c. search (needs, stored-aligned))
-    (λ c. search (needs, stored-misaligned)))
+    (λ c. search (needs, stored-aligned)))

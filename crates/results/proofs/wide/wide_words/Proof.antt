@@ -1,5 +1,5 @@
 -- The value of xy and that of zw.
-use Rattle.results.proofs.Families.{wide-is}
+use Rattle.results.proofs.Families.{half-is, wide-is}
 use borrow.Author.Needs.{needs}
 use Rattle.results.proofs.wide.wide_words.Statement.{statement}
 use Rattle.results.proofs.wide.wide_words.Tie as tie
@@ -11,4 +11,4 @@ wide-words-spec =
     (search needs) (search needs) (search needs) (search needs) (search needs) (search needs) (search needs)
     (search needs) (search needs) (search needs) (search needs) (search needs) (search needs) (search needs)
     (search needs) (search needs) (search needs) (search needs) (search needs)
-    (λ c. search (needs, wide-is)))
+    (λ c. search (needs, wide-is, half-is)))

@@ -4,7 +4,7 @@ use borrow.Author.Needs.{needs}
 use Rattle.blocks.specs.Run.{mostInstructions, walk}
 use Rattle.blocks.specs.Table.{placeIn, rowIn}
 use Rattle.sequencer.specs.Labels.{opsOf, casesOf}
-use Rattle.sequencer.proofs.Walks.{label-found, label-on, walk-ended, walk-spent}
+use Rattle.sequencer.proofs.Walks.{label-found, label-on, label-passed, walk-ended, walk-spent}
 use Rattle.sequencer.proofs.labels.after_label.Statement.{statement}
 use Rattle.sequencer.proofs.labels.after_label.Tie as tie
 
@@ -25,5 +25,5 @@ after-label-spec =
     (search needs) (search needs) (search needs) (search needs)
     (λ c. search (needs, label-found))
     (search needs) (search needs) (search needs) (search needs)
-    (λ c. search (needs, label-on))
+    (λ c. search (needs, label-on, label-passed))
     (λ c. search (needs, walk-spent)))

@@ -1,5 +1,5 @@
 -- The four components, negated or not.
-use Rattle.sources.proofs.Sources.{pick-negated, pick-plain}
+use Rattle.sources.proofs.Sources.{component-negated, component-plain, four-taken}
 use borrow.Author.Needs.{needs}
 use Rattle.sources.proofs.operands.pick.Statement.{statement}
 use Rattle.sources.proofs.operands.pick.Tie as tie
@@ -10,5 +10,5 @@ pick-spec =
     (tie.spec
     (search needs) (search needs) (search needs) (search needs)
     (search needs) (search needs) (search needs) (search needs) (search needs)
-    (λ c. search (needs, pick-negated))
-    (λ c. search (needs, pick-plain)))
+    (λ c. search (needs, four-taken, component-negated))
+    (λ c. search (needs, four-taken, component-plain)))
