@@ -29,25 +29,28 @@ module _ (d : Declared) (t : Bool) (is : t ≡ isIn d MEM 0) where
   pub memory-not : t ≡ false → _≡_ {A = ℕ} 0 (memoryIn (isIn d))
   memory-not e = rw (sym is ∙ e)
 
--- The declared sets last: their words are what a program can get wrong and still have all numbers right.
-pub needed-is : (p : Program) (outputs memory : ℕ)
+-- Each number by an equation of its own, so that a wrong one is refused at it.
+pub needed-is : (p : Program) (work inputs constants outputs memory : ℕ)
     → memory ≡ memoryIn (isIn (p .declared))
     → outputs ≡ outputsIn (isIn (p .declared))
+    → constants ≡ 4 * p .constants
+    → inputs ≡ 4 * p .inputs
+    → work ≡ rowWords * p .instructions
     → _≡_ {A = Needs}
     (record {
       status = 0;
       first = p .instructions;
       second = 0;
       instructions = p .instructions;
-      work = rowWords * p .instructions;
-      inputs = 4 * p .inputs;
-      constants = 4 * p .constants;
+      work = work;
+      inputs = inputs;
+      constants = constants;
       outputs = outputs;
       memory = memory;
     })
     (needed (programSeen p [] []))
 unfolding needed
-needed-is p outputs memory m o = rw (m, o)
+needed-is p work inputs constants outputs memory m o c i w = rw (m, o, c, i, w)
 
 -- ---- A file
 

@@ -17,8 +17,8 @@ ghost use Rattle.needs.specs.Needs.{outputsIn, memoryIn, needed, denied,
 ghost use Rattle.needs.specs.Inner.Small.{Small};
 
 // Status 0: the file is a program, with the number of its instructions first and 0 second. Status 2: it is refused, with the
-// refusal's number first and its place second, and all else 0. The words to lend of `work`, `inputs` and `constants`; bit i of
-// `outputs` where OUT[i] is declared; `memory` 1 where MEM is.
+// refusal's number first and its place second, and all else 0. `work`, `inputs` and `constants` are how many words a run asks
+// for, bit i of `outputs` is 1 where OUT[i] is declared, and `memory` is 1 where MEM is.
 #[repr(C)]
 pub struct Needs {
     pub status: u32,
@@ -36,7 +36,7 @@ const DONE: u32 = 0;
 
 const REFUSED: u32 = 2;
 
-// A word is made of its bits.
+// A word is made of its bits. An argument is known to be a word of 32 bits, an array's element is not.
 fn of_bits(word: u32) -> u32
     ensures { λ r. ⌜ r ≡ sum 32 (λ i. bit word i * 2 ^ i) ⌝ }
 {
