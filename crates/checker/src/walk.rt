@@ -261,14 +261,7 @@ fn end_verdict(instructions: u32, next: usize, end: usize) -> Verdict
 
 // How the walk goes on after a record of a kind at a place, which is followed by the place `next` and of which this number was
 // found, in a file of this length.
-fn way_after(
-    refusal: u8,
-    kind: u8,
-    instructions: u32,
-    at: usize,
-    next: usize,
-    end: usize,
-) -> Way
+fn way_after(refusal: u8, kind: u8, instructions: u32, at: usize, next: usize, end: usize) -> Way
     requires { ⌜ (at ≤ 65536) × (next ≤ 65536) ⌝ }
     ensures { λ r. ⌜ r ≡ wayAfter refusal kind instructions at next end ⌝ }
 {
@@ -309,7 +302,14 @@ fn take_turn(
     let kind = readers::byte_at(file, at);
     Turn {
         state,
-        way: way_after(taken.refusal, kind, program.instructions, at, next, file.len()),
+        way: way_after(
+            taken.refusal,
+            kind,
+            program.instructions,
+            at,
+            next,
+            file.len(),
+        ),
     }
 }
 
