@@ -82,6 +82,9 @@ module _ (file : List ℕ) (at next : ℕ) (follows : next ≡ at + sizeAt file 
   pub next-small : at ≤ length file → length file ≤ 65536 → next ≤ 65536
   next-small h l = omega (arith, size-fits file at h)
 
+  pub next-within : at < length file → length file ≤ 65536 → next ≤ 65536
+  next-within h l = omega (arith, size-fits file at (omega arith))
+
 -- ---- Instructions
 
 module _ (p : Program) (kind : ℕ) (file : List ℕ) (at : ℕ) where

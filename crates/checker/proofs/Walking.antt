@@ -9,7 +9,7 @@ use lib.Dec.{eqb, leb, ltb, eqb·suc-zero}
 use lib.ListN.{length, getD}
 use borrow.Author.Tests.{lt-ltb, le-ltb, leb-false, eq-eqb, ne-eqb, eqb-true, eqb-false, not-false}
 use Rattle.format.specs.Kinds.{lengthOf}
-use Rattle.format.specs.Records.{longest, sizeAt}
+use Rattle.format.specs.Records.{longest, wholeAt, sizeAt}
 use Rattle.format.specs.Fields.{caseWord}
 use Rattle.format.specs.Refusals.{tooLong, byteAfterEnd, unknownKind, bodyCut, tooMany, fieldRuleBroken, notDeclared, nestingBroken, noEnd}
 use Rattle.blocks.specs.Control.{opOf}
@@ -110,47 +110,62 @@ end-closed s file at u found e =
 not-on : {A : Type 0} {v : Verdict} → Ended v ≡ On → A
 not-on e = let z : _≡_ {A = ℕ} 0 1 = cc in absurd (omega arith)
 
-module _ (n at end : ℕ) where
-  pub end-follows : at + 1 < end → Refused byteAfterEnd (at + 1) ≡ endOf n at end
+module _ (n next end : ℕ) where
+  pub end-follows : next < end → Refused byteAfterEnd next ≡ endOf n next end
   unfolding endOf
-  end-follows h = rw (lt-ltb (at + 1) end h)
+  end-follows h = rw (lt-ltb next end h)
 
-  pub end-last : end ≤ at + 1 → Accepted n ≡ endOf n at end
+  pub end-last : end ≤ next → Accepted n ≡ endOf n next end
   unfolding endOf
-  end-last h = rw (le-ltb (at + 1) end h)
+  end-last h = rw (le-ltb next end h)
 
-  end-tells : Tells (endOf n at end) n
+  end-tells : Tells (endOf n next end) n
   unfolding endOf
-  end-tells = by (ltb (at + 1) end) where
-    by : (b : Bool) → Tells (cond b (Refused byteAfterEnd (at + 1)) (Accepted n)) n
+  end-tells = by (ltb next end) where
+    by : (b : Bool) → Tells (cond b (Refused byteAfterEnd next) (Accepted n)) n
     by true = tt
     by false = refl
 
-module _ (m kind n at end : ℕ) where
-  pub way-refused : (m ≡ 0 → ⊥) → Ended (Refused m at) ≡ wayAfter m kind n at end
+module _ (m kind n at next end : ℕ) where
+  pub way-refused : (m ≡ 0 → ⊥) → Ended (Refused m at) ≡ wayAfter m kind n at next end
   unfolding wayAfter
   way-refused z = rw (ne-eqb m 0 z)
 
-  pub way-on : m ≡ 0 → (kind ≡ 0x89 → ⊥) → On ≡ wayAfter m kind n at end
+  pub way-on : m ≡ 0 → (kind ≡ 0x89 → ⊥) → On ≡ wayAfter m kind n at next end
   unfolding wayAfter
   way-on z e = rw (eq-eqb m 0 z, ne-eqb kind 0x89 e)
 
-  pub way-ends : (v : Verdict) → m ≡ 0 → kind ≡ 0x89 → v ≡ endOf n at end → Ended v ≡ wayAfter m kind n at end
+  pub way-ends : (v : Verdict) → m ≡ 0 → kind ≡ 0x89 → v ≡ endOf n next end → Ended v ≡ wayAfter m kind n at next end
   unfolding wayAfter
   way-ends v z e q = rw (eq-eqb m 0 z, eq-eqb kind 0x89 e, q)
 
-module _ (s : Seen) (file : List ℕ) (at m kind : ℕ) (t : State) (words values : List ℕ)
+-- The record of an END has no body.
+end-size : (file : List ℕ) (at : ℕ) → getD file at 0 ≡ 0x89 → (sizeAt file at ≡ 0 → ⊥) → sizeAt file at ≡ 1
+unfolding sizeAt lengthOf
+end-size file at e some = by (wholeAt file at) refl where
+  by : (b : Bool) → wholeAt file at ≡ b → sizeAt file at ≡ 1
+  by true q = rw (q, e)
+  by false q = absurd (some (rw q))
+
+module _ (s : Seen) (file : List ℕ) (at next m kind : ℕ) (t : State) (words values : List ℕ)
+    (follows : next ≡ at + sizeAt file at)
     (found : cond (eqb m 0) (taken (seen t words values)) (due m) ≡ recordFinding s file at)
     (here : kind ≡ getD file at 0)
   where
     is-taken : eqb m 0 ≡ true → recordFinding s file at ≡ taken (seen t words values)
     is-taken z = sym (rw z at found)
 
+    -- A byte after END is the next one.
+    end-next : eqb m 0 ≡ true → eqb kind 0x89 ≡ true → next ≡ at + 1
+    end-next z e =
+        let one = end-size file at (sym here ∙ eqb-true kind 0x89 e) (taken-whole s file at (seen t words values) (is-taken z)) in
+        omega arith
+
     -- At END no block is open.
-    ends : eqb m 0 ≡ true → eqb kind 0x89 ≡ true → concluded (endOf (t .program .instructions) at (length file)) (programSeen (t .program) words [])
+    ends : eqb m 0 ≡ true → eqb kind 0x89 ≡ true → concluded (endOf (t .program .instructions) next (length file)) (programSeen (t .program) words [])
         ≡ cond (ltb (at + 1) (length file)) (refused byteAfterEnd (at + 1)) (accepted (seen t words values))
     unfolding seen endOf
-    ends z e = by (ltb (at + 1) (length file)) where
+    ends z e = rw (end-next z e) (by (ltb (at + 1) (length file))) where
       closed : blocksOf (t .blocks) values ≡ []
       closed = end-closed s file at (seen t words values) (is-taken z) (sym here ∙ eqb-true kind 0x89 e)
 
@@ -158,11 +173,11 @@ module _ (s : Seen) (file : List ℕ) (at m kind : ℕ) (t : State) (words value
       by true = refl
       by false = ap (λ (σ : List Open). accepted (programSeen (t .program) words σ)) (sym closed)
 
-    pub turned : (w : Way) → w ≡ wayAfter m kind (t .program .instructions) at (length file) → Turned s file at (record { state = t; way = w }) words values
+    pub turned : (w : Way) → w ≡ wayAfter m kind (t .program .instructions) at next (length file) → Turned s file at (record { state = t; way = w }) words values
     unfolding wayAfter
     turned w q = rw q (by (eqb m 0) refl (eqb kind 0x89) refl) where
       by : (a : Bool) → eqb m 0 ≡ a → (b : Bool) → eqb kind 0x89 ≡ b
-          → Turned s file at (record { state = t; way = cond a (cond b (Ended (endOf (t .program .instructions) at (length file))) On) (Ended (Refused m at)) }) words values
+          → Turned s file at (record { state = t; way = cond a (cond b (Ended (endOf (t .program .instructions) next (length file))) On) (Ended (Refused m at)) }) words values
       by false z b e = record { leads = λ rest. rw (← found, z); whole = λ o. not-on o; tells = tt }
       by true z false e =
           record { leads = λ rest. rw (is-taken z, ← here, e); whole = λ o. taken-whole s file at (seen t words values) (is-taken z); tells = tt }
@@ -170,7 +185,7 @@ module _ (s : Seen) (file : List ℕ) (at m kind : ℕ) (t : State) (words value
           record {
             leads = λ rest. rw (is-taken z, ← here, e) (ends z e);
             whole = λ o. not-on o;
-            tells = end-tells (t .program .instructions) at (length file);
+            tells = end-tells (t .program .instructions) next (length file);
           }
 
 -- What is told goes by the outcome.

@@ -248,21 +248,22 @@ fn started() -> State
     }
 }
 
-// What an END at a place comes to that no rule refuses, in a file of this length.
-fn end_verdict(instructions: u32, at: usize, end: usize) -> Verdict
-    requires { ⌜ at ≤ 65536 ⌝ }
-    ensures { λ r. ⌜ r ≡ endOf instructions at end ⌝ }
+// What an END comes to that no rule refuses and that is followed by the place `next`, in a file of this length.
+fn end_verdict(instructions: u32, next: usize, end: usize) -> Verdict
+    requires { ⌜ next ≤ 65536 ⌝ }
+    ensures { λ r. ⌜ r ≡ endOf instructions next end ⌝ }
 {
-    if at + 1 < end {
-        return Verdict::Refused(refusals::BYTE_AFTER_END, at as u32 + 1);
+    if next < end {
+        return Verdict::Refused(refusals::BYTE_AFTER_END, next as u32);
     }
     Verdict::Accepted(instructions)
 }
 
-// How the walk goes on after a record of a kind at a place, of which this number was found, in a file of this length.
-fn way_after(refusal: u8, kind: u8, instructions: u32, at: usize, end: usize) -> Way
-    requires { ⌜ at ≤ 65536 ⌝ }
-    ensures { λ r. ⌜ r ≡ wayAfter refusal kind instructions at end ⌝ }
+// How the walk goes on after a record of a kind at a place, which is followed by the place `next` and of which this number was
+// found, in a file of this length.
+fn way_after(refusal: u8, kind: u8, instructions: u32, at: usize, next: usize, end: usize) -> Way
+    requires { ⌜ (at ≤ 65536) × (next ≤ 65536) ⌝ }
+    ensures { λ r. ⌜ r ≡ wayAfter refusal kind instructions at next end ⌝ }
 {
     if refusal != 0 {
         return Way::Ended(Verdict::Refused(refusal, at as u32));
@@ -270,7 +271,7 @@ fn way_after(refusal: u8, kind: u8, instructions: u32, at: usize, end: usize) ->
     if kind != END {
         return Way::On;
     }
-    Way::Ended(end_verdict(instructions, at, end))
+    Way::Ended(end_verdict(instructions, next, end))
 }
 
 // What a file of this length comes to that ends without END.
@@ -301,7 +302,14 @@ fn take_turn(
     let kind = readers::byte_at(file, at);
     Turn {
         state,
-        way: way_after(taken.refusal, kind, program.instructions, at, file.len()),
+        way: way_after(
+            taken.refusal,
+            kind,
+            program.instructions,
+            at,
+            next,
+            file.len(),
+        ),
     }
 }
 

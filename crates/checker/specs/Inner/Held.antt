@@ -73,14 +73,14 @@ takenBy false s n = record { refusal = n .refusal; state = s }
 abbrev pub takenOf : State → Nested → Taken
 takenOf s n = takenBy (eqb (n .refusal) 0) s n
 
--- What an END at a place comes to in a file of this length: refusal 2, or an accepted program.
+-- What an END that is followed by the place `next` comes to in a file of this length: refusal 2, or an accepted program.
 unfoldable pub endOf : ℕ → ℕ → ℕ → Verdict
-endOf instructions at end = cond (ltb (at + 1) end) (Refused byteAfterEnd (at + 1)) (Accepted instructions)
+endOf instructions next end = cond (ltb next end) (Refused byteAfterEnd next) (Accepted instructions)
 
--- How the walk goes on after a record of this kind at a place, of which this number was found.
-unfoldable pub wayAfter : ℕ → ℕ → ℕ → ℕ → ℕ → Way
-wayAfter refusal kind instructions at end =
-    cond (eqb refusal 0) (cond (eqb kind (kindOf END)) (Ended (endOf instructions at end)) On) (Ended (Refused refusal at))
+-- How the walk goes on after a record of this kind at a place, followed by the place `next`, of which this number was found.
+unfoldable pub wayAfter : ℕ → ℕ → ℕ → ℕ → ℕ → ℕ → Way
+wayAfter refusal kind instructions at next end =
+    cond (eqb refusal 0) (cond (eqb kind (kindOf END)) (Ended (endOf instructions next end)) On) (Ended (Refused refusal at))
 
 -- What the walk comes to after a turn, `rest` standing for the rest of it.
 abbrev pub goesOn : Way → Seen → Seen → (Seen → Outcome) → Outcome

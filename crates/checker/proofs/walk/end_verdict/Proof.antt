@@ -8,6 +8,6 @@ pub end-verdict-spec : {M : Type 1} → statement M
 end-verdict-spec =
     tie.close
     (tie.spec
-    (search needs) (search needs) (search needs)
+    (search needs)
     (λ c. search (needs, end-follows))
     (λ c. search (needs, end-last)))

@@ -1,6 +1,6 @@
 -- What is found of the record leads the walk as it leads the definition.
 use borrow.Author.Needs.{needs}
-use Rattle.checker.proofs.Taking.{next-small}
+use Rattle.checker.proofs.Taking.{next-within}
 use Rattle.checker.proofs.Walking.{turned}
 use Rattle.checker.proofs.walk.take_turn.Statement.{statement}
 use Rattle.checker.proofs.walk.take_turn.Tie as tie
@@ -11,5 +11,5 @@ take-turn-spec =
     (tie.spec
     (λ c κs. search needs)
     (search needs)
-    (λ c κs. search (needs, next-small))
+    (λ c κs. search (needs, next-within))
     (λ c. (search (needs, turned), (search needs, search needs, search needs))))
