@@ -28,9 +28,9 @@ file-cases P p1 p2 p3 p4 p5 p7 o f =
 -- ---- By the number of the file
 
 module _ (k : ℕ) (d : Declared) (f : ℕ) (r : Bool) (file : f ≡ k) where
-  pub declared-in : (i : ℕ) → r ≡ bitIn (wordsOf d k) i → r ≡ isIn d f i
+  pub declared-in : (i : ℕ) (ws : List ℕ) → r ≡ bitIn ws i → ws ≡ wordsOf d k → r ≡ isIn d f i
   unfolding isIn
-  declared-in i e = rw file e
+  declared-in i ws e w = rw (file, ← w) e
 
   pub any-declared-in : (i n : ℕ) → r ≡ anyOf (bitIn (wordsOf d k)) i n → r ≡ anyOf (isIn d f) i n
   unfolding isIn
