@@ -1,6 +1,6 @@
 #!/bin/sh
 # Tests the example and the program that runs it: the files are what their sources say, bytes.sh and words.sh refuse what they
-# cannot write, and tgsi_run writes what README.md and the help promise, by itself (target/bin/tgsi_run, made by
+# cannot write, and tgsi_run writes what README.md, docs/FORMAT.md and the help promise, by itself (target/bin/tgsi_run, made by
 # `rt check tgsi_run`) and as the installed command.
 set -eu
 cd "$(dirname "$0")"
@@ -58,16 +58,28 @@ table_fault 's/2C/2G/' 'byte "2G" is not two hex digits'
 table_fault 's/2C/C/' 'byte "C" is not two hex digits'
 table_fault 's/2C/2C0/' 'byte "2C0" is not two hex digits'
 table_fault 's/| 02 [^|]*|/|  |/' 'no bytes'
-table_fault 's/|.*//' 'not four columns'
+table_fault 's/|.*//' 'not four columns but 1'
+table_fault 's/|[^|]*$//' 'not four columns but 3'
+table_fault 's/$/ | more/' 'not four columns but 5'
 table_fault 's/ 24/ 23/' 'place 23, and 24 bytes stand before it'
 table_fault 's/ 24/ x4/' 'place "   x4 " is not a number'
 grep '^#' measure.txt >"$room/table"
-gives 1 "" "bytes.sh: line 7: no records before the end" sh bytes.sh "$room/table"
+gives 1 "" "bytes.sh: the table has no bytes" sh bytes.sh "$room/table"
+: >"$room/table"
+gives 1 "" "bytes.sh: the table has no bytes" sh bytes.sh "$room/table"
+gives 1 "" "bytes.sh: no-such-file: not there, or not to be read" sh bytes.sh no-such-file
+gives 1 "" "bytes.sh: .: not there, or not to be read" sh bytes.sh .
 gives 2 "" "usage: sh bytes.sh TABLE > FILE" sh bytes.sh
 gives 2 "" "usage: sh words.sh TEXT > FILE" sh words.sh
 gives 2 "" "usage: sh words.sh TEXT > FILE" sh words.sh 2 5
 gives 1 "" "words.sh: more than 8 characters" sh words.sh 123456789
 gives 1 "" "words.sh: not ASCII" sh words.sh "2$(printf '\303\251')"
+gives 1 "" "words.sh: no characters" sh words.sh ""
+for code in 001 011 012 015 037 177; do
+    gives 1 "" "words.sh: a control character" sh words.sh "$(printf '2%b5' "\\0$code")"
+done
+gives 1 "" "words.sh: a control character" sh words.sh "2
+"
 
 # `measures TEXT TENTHS PLACE STEPS`: the results of README.md
 measures() {
@@ -86,6 +98,21 @@ measures 12345678 123456780 8 182
 # 6 steps of the search and 13 of the reading; a comma takes 3 steps less than the digit in its place.
 measures 2.5 1850 3 87
 measures 2,,5 2 1 66
+
+# docs/FORMAT.md: its listings as they stand there, and its commands, each line after a $, with what they write below them.
+# `page_section HEADING`: the indented lines under a heading.
+page_section() {
+    awk -v heading="### $1" '/^#/ { on = $0 == heading } on && sub(/^    /, "")' ../docs/FORMAT.md
+}
+mkdir "$room/page"
+ln -s "$PWD" "$room/page/examples"
+page_section "A constant handed out" | grep -E '^ *[0-9]+ \|' >"$room/page/constant.txt"
+page_section "A sum of corrections that a list in memory names" | grep -E '^ *[0-9]+ \|' >"$room/page/sum.txt"
+page_section "From a listing to a run" >"$room/page/session"
+[ "$(grep -c '^\$ tgsi_run ' "$room/page/session")" -eq 2 ] || { echo "docs/FORMAT.md: not two runs"; exit 1; }
+sed -n 's/^\$ //p' "$room/page/session" >"$room/page/commands"
+on_the_page() { (cd "$room/page" && PATH=$room/bin:$PATH sh -eu commands); }
+gives 0 "$(sed '/^\$ /d' "$room/page/session")" "" on_the_page
 
 . ./check_command.sh
 echo "examples: ok, $tests tests of commands"

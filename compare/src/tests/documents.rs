@@ -102,6 +102,14 @@ impl Words {
         lent.extend(words);
     }
 
+    /// With more inputs and constants than any program can declare: "the others change nothing that a run gives".
+    pub fn longer(&self) -> Words {
+        let mut words = self.clone();
+        words.inputs.resize(128 + 1, 7);
+        words.constants.resize(4096 + 1, 7);
+        words
+    }
+
     pub fn run(&self, runner: &dyn Runner, file: &[u8], budget: u32) -> Left {
         let (mut registers, mut work, mut memory) = (vec![9; REGISTER_WORDS], vec![9; 3 * 1024], self.memory.clone());
         let lent = Lent {

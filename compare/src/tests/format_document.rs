@@ -233,6 +233,7 @@ fn runs_hold(runner: &dyn Runner, heading: &str) -> usize {
     for (i, &head) in heads.iter().enumerate() {
         let end = heads.get(i + 1).copied().unwrap_or(told.len());
         run_holds(runner, &file, &lent, told[head], &told[head + 1..end]);
+        run_holds(runner, &file, &lent.longer(), told[head], &told[head + 1..end]);
     }
     heads.len()
 }

@@ -1,10 +1,18 @@
-//! The example's source: its column of records, which reviewers read, is what its column of bytes says by document 01.
+//! Listed programs, of the example's source and of the documents: the column of records, which reviewers read, is what the column of
+//! bytes says by document 01.
 
+use super::documents::{listed, section};
 use super::*;
 use crate::kinds;
 
 const TABLE: &str = include_str!("../../../examples/measure.txt");
 const PROGRAM: &[u8] = include_bytes!("../../../examples/measure.bin");
+const FORMAT: &str = include_str!("../../../docs/FORMAT.md");
+const DIFFERENCES: &str = include_str!("../../../docs/DIFFERENCES.md");
+
+/// The column of records: it follows the bytes, and in FORMAT the row of the prepared table.
+const AFTER_BYTES: usize = 2;
+const AFTER_ROW: usize = 3;
 
 const COMPONENTS: [char; 4] = ['x', 'y', 'z', 'w'];
 
@@ -90,26 +98,26 @@ fn listing(file: &[u8]) -> Vec<(usize, String)> {
     lines
 }
 
-/// A line of the table: place, bytes and record.
+/// A line of a listed program: place, bytes and record.
 struct Row<'a> {
     place: usize,
     bytes: Vec<u8>,
     record: &'a str,
 }
 
-fn row(line: &str) -> Row<'_> {
+fn row(line: &str, column: usize) -> Row<'_> {
     let cells: Vec<&str> = line.split('|').collect();
     let byte = |digits| u8::from_str_radix(digits, 16).expect("hex");
     Row {
         place: cells[0].trim().parse().expect("a place"),
         bytes: cells[1].split_whitespace().map(byte).collect(),
-        record: cells[2].strip_prefix(' ').expect("a space").trim_end(),
+        record: cells[column].strip_prefix(' ').expect("a space").trim_end(),
     }
 }
 
-/// The first line of the table whose place or record is not what all its bytes say.
-fn wrong_line(table: &str) -> Option<String> {
-    let rows: Vec<Row> = table.lines().filter(|line| !line.starts_with('#')).map(row).collect();
+/// The first line of a listed program whose place or record is not what all its bytes say.
+fn wrong_line(program: &[&str], column: usize) -> Option<String> {
+    let rows: Vec<Row> = program.iter().map(|line| row(line, column)).collect();
     let file: Vec<u8> = rows.iter().flat_map(|row| row.bytes.clone()).collect();
     let lines = listing(&file);
     assert_eq!(rows.len(), lines.len());
@@ -117,17 +125,51 @@ fn wrong_line(table: &str) -> Option<String> {
     found.zip(lines).find(|(found, line)| found != line).map(|(found, line)| format!("{found:?}, and not {line:?}"))
 }
 
-#[test]
-fn records_are_what_the_bytes_say() {
-    let bytes: Vec<u8> = TABLE.lines().filter(|line| !line.starts_with('#')).flat_map(|line| row(line).bytes).collect();
-    assert_eq!(bytes, PROGRAM);
-    assert_eq!(wrong_line(TABLE), None);
+/// Of each listed program of a text, its wrong line.
+fn wrong_in_table(text: &str) -> Vec<Option<String>> {
+    let lines: Vec<&str> = text.lines().filter(|line| !line.starts_with('#')).collect();
+    vec![wrong_line(&lines, AFTER_BYTES)]
 }
 
-/// Each of these changes in the column of records, or in the bytes beside it, is found.
+/// A program is the listed lines that follow one another.
+fn wrong_in_lines(lines: &[&str], column: usize) -> Vec<Option<String>> {
+    let programs = lines.split(|line| listed(line).is_none()).filter(|program| !program.is_empty());
+    programs.map(|program| wrong_line(program, column)).collect()
+}
+
+fn wrong_in_format(text: &str) -> Vec<Option<String>> {
+    wrong_in_lines(&section(text, "## Two programs"), AFTER_ROW)
+}
+
+fn wrong_in_differences(text: &str) -> Vec<Option<String>> {
+    wrong_in_lines(&text.lines().collect::<Vec<_>>(), AFTER_BYTES)
+}
+
 #[test]
-fn changed_lines_are_found() {
-    for (old, new) in [
+fn bytes_of_the_example() {
+    let lines = TABLE.lines().filter(|line| !line.starts_with('#'));
+    assert_eq!(lines.flat_map(|line| row(line, AFTER_BYTES).bytes).collect::<Vec<u8>>(), PROGRAM);
+}
+
+#[test]
+fn records_are_what_the_bytes_say() {
+    assert_eq!(wrong_in_table(TABLE), [None]);
+    assert_eq!(wrong_in_format(FORMAT), [None, None]);
+    assert_eq!(wrong_in_differences(DIFFERENCES), vec![None; 7]);
+}
+
+/// Each of these changes of a text makes a line of it wrong.
+fn are_found(text: &str, wrong: fn(&str) -> Vec<Option<String>>, changes: &[(&str, &str)]) {
+    for (old, new) in changes {
+        assert!(text.contains(old), "{old}");
+        assert!(wrong(&text.replacen(old, new, 1)).iter().any(Option::is_some), "{new}");
+    }
+}
+
+/// Changes in the column of records, or in the bytes beside it.
+#[test]
+fn changed_lines_of_the_example_are_found() {
+    let changes = [
         ("| MOV TEMP[3].x", "| NOT TEMP[3].x"),
         ("TEMP[3].x, IN[3].x", "TEMP[3].x, IN[2].x"),
         ("TEMP[3].x, IN[3].x", "TEMP[3].x, CONST[3].x"),
@@ -145,8 +187,34 @@ fn changed_lines_are_found() {
         ("|     BRK ", "|   BRK   "),
         ("  148 |", "  149 |"),
         ("10 04 03 00 01 02 03", "10 04 03 00 01 02 04"),
-    ] {
-        assert!(TABLE.contains(old), "{old}");
-        assert!(wrong_line(&TABLE.replacen(old, new, 1)).is_some(), "{new}");
-    }
+    ];
+    are_found(TABLE, wrong_in_table, &changes);
+}
+
+#[test]
+fn changed_lines_of_the_documents_are_found() {
+    let in_format = [
+        ("|   LOAD TEMP[0].x", "|   MOV TEMP[0].x"),
+        ("LOAD TEMP[0].x, TEMP[1].x", "LOAD TEMP[1].x, TEMP[1].x"),
+        ("LOAD TEMP[0].x, TEMP[1].x", "LOAD TEMP[0].x, IMM[1].x"),
+        ("STORE MEM[0].x,", "STORE MEM[0].xy,"),
+        ("UIF TEMP[1].z", "UIF TEMP[1].y"),
+        ("MOV OUT[0].x, IMM[0].xyzw", "MOV OUT[0].x, IMM[0]"),
+        ("TEMP[1].y, CONST[0 + ADDR[0].x].x", "TEMP[1].y, CONST[0].x"),
+        ("IMM {25,", "IMM {26,"),
+        ("DCL CONST[0..2]", "DCL CONST[0..3]"),
+        ("|     BRK", "|   BRK"),
+        ("    130 |", "    131 |"),
+        ("90 04 01 00 AA 00", "90 04 01 00 55 00"),
+    ];
+    are_found(FORMAT, wrong_in_format, &in_format);
+    let in_differences = [
+        ("| U64ADD TEMP[0]", "| U64MUL TEMP[0]"),
+        ("TEMP[0].zwxy", "TEMP[0].xyzw"),
+        ("UARL ADDR[0].xy", "UARL ADDR[0].x"),
+        ("CONST[1 + ADDR[0].x]", "CONST[2 + ADDR[0].x]"),
+        ("IMM {0xFFFFFFFF,", "IMM {0xFFFFFFFE,"),
+        ("CASE IMM[0].x", "CASE IMM[0].y"),
+    ];
+    are_found(DIFFERENCES, wrong_in_differences, &in_differences);
 }
