@@ -27,13 +27,16 @@ clean:
 .PHONY: build install uninstall
 PREFIX = /usr/local
 DESTDIR =
+export PREFIX DESTDIR
 
+# rt leaves a program as it is if no file that it is of has another content; install goes by times.
 build:
 	rt staticlib ropebonnet
 	rt check tgsi_run
+	@touch target/bin/tgsi_run
 
 install:
-	PREFIX='$(PREFIX)' DESTDIR='$(DESTDIR)' scripts/install
+	scripts/install
 
 uninstall:
-	PREFIX='$(PREFIX)' DESTDIR='$(DESTDIR)' scripts/install --remove
+	scripts/install --remove

@@ -3,7 +3,7 @@
  *     gcc -std=c11 -Wall -Wextra -Werror examples/host.c $(pkg-config --cflags --libs ropebonnet) -o host
  *     gcc -std=c11 -Wall -Wextra -Werror -Iinclude examples/host.c target/staticlib/libropebonnet.a -o host
  *
- * The first way after `make install`, the second without it.
+ * The first way after `make build` and `make install`, the second after `make build` alone.
  */
 #include "ropebonnet.h"
 

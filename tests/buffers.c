@@ -1,18 +1,17 @@
 /* A host that lends different words in every buffer, by a program that reads inputs, constants, an immediate and memory
  * and writes OUT, TEMP, ADDR and memory. Each word that the run leaves is worked out here by document 01. Buffers lie
- * between pages that cannot be touched, what is only read cannot be written; and two arguments exchanged give another
- * result.
+ * between pages that cannot be touched, what is only read cannot be written, lengths are up to 2^32 words and more; and
+ * two arguments exchanged give another result.
  */
 #define _DEFAULT_SOURCE
 #include "expect.h"
+#include "guard.h"
 #include "program.h"
 
-#include <stdlib.h>
-#include <string.h>
-#include <sys/mman.h>
-
 enum { INPUTS, CONSTANTS, REGISTERS, WORK, MEMORY, BUFFERS };
-enum { ROOM = 1160, PAGE = 4096, PAGES = 3, STEPS = 8, BUDGET = 100, SLACK = 0xC3 };
+enum { ROOM = 4100, STEPS = 8, BUDGET = 100 };
+
+#define TWO_TO_32 ((size_t)1 << 32)
 
 static const char *const names[BUFFERS] = {"inputs", "constants", "registers", "work", "memory"};
 
@@ -155,66 +154,51 @@ static void all_exchanges(void)
     }
 }
 
-/* A buffer between two pages that cannot be touched, against the first or the last; what is left of its pages is
- * painted.
- */
-struct guarded {
-    uint8_t *pages;
-    uint8_t *start;
-    size_t length;
-};
-
-static struct guarded guard(const void *content, size_t length, int last)
-{
-    struct guarded g = {NULL, NULL, length};
-    uint8_t *all = mmap(NULL, (PAGES + 2) * PAGE, PROT_NONE, MAP_PRIVATE | MAP_ANONYMOUS, -1, 0);
-    if (all == MAP_FAILED || mprotect(all + PAGE, PAGES * PAGE, PROT_READ | PROT_WRITE) != 0) {
-        abort();
-    }
-    g.pages = all + PAGE;
-    g.start = last ? g.pages + PAGES * PAGE - length : g.pages;
-    memset(g.pages, SLACK, PAGES * PAGE);
-    memcpy(g.start, content, length);
-    return g;
-}
-
-static void only_read(struct guarded g)
-{
-    if (mprotect(g.pages, PAGES * PAGE, PROT_READ) != 0) {
-        abort();
-    }
-}
-
-static int slack_stays(struct guarded g)
-{
-    for (uint8_t *b = g.pages; b < g.pages + PAGES * PAGE; b++) {
-        if ((b < g.start || b >= g.start + g.length) && *b != SLACK) {
-            return 0;
-        }
-    }
-    return 1;
-}
-
-static void between_guards(int last)
+/* A run with every buffer in pages of its own: `mapped` words of each can be touched, and `lengths` are lent. */
+static void in_pages(const size_t mapped[BUFFERS], const size_t lengths[BUFFERS], enum side side,
+                     const struct words *after, const char *what)
 {
     uint32_t *lent[BUFFERS];
-    struct guarded file = guard(p.bytes, p.length, last), buffers[BUFFERS];
+    struct guarded file = guard(p.bytes, p.length, side), buffers[BUFFERS];
     fill(&found);
     for (unsigned b = 0; b < BUFFERS; b++) {
-        buffers[b] = guard(found.of[b], 4 * exact[b], last);
-        lent[b] = (uint32_t *)(void *)buffers[b].start;
+        buffers[b] = guard(found.of[b], 4 * mapped[b], side);
+        lent[b] = words_of(buffers[b]);
     }
     only_read(file);
     only_read(buffers[INPUTS]);
     only_read(buffers[CONSTANTS]);
-    found.answer = call(file.start, lent, exact);
+    found.answer = call(file.start, lent, lengths);
     for (unsigned b = 0; b < BUFFERS; b++) {
-        EXPECT(slack_stays(buffers[b]), "a byte beside %s was written", names[b]);
-        memcpy(found.of[b], lent[b], 4 * exact[b]);
-        munmap(buffers[b].pages - PAGE, (PAGES + 2) * PAGE);
+        EXPECT(slack_stays(buffers[b]), "%s: a byte beside %s was written", what, names[b]);
+        memcpy(found.of[b], lent[b], 4 * mapped[b]);
+        release(buffers[b]);
     }
-    munmap(file.pages - PAGE, (PAGES + 2) * PAGE);
-    expect_words(&found, &wanted, last ? "against the last page" : "against the first page");
+    release(file);
+    expect_words(&found, after, what);
+}
+
+/* Of buffers that are longer than can be used, no word past these is touched: up to 128 inputs and 4,096 constants,
+ * 1,156 register words and the rows. So far more can be lent here than there is, also a length that is 0 in its lower
+ * 32 bits.
+ */
+static void longer_than_used(size_t length)
+{
+    static const size_t used[BUFFERS] = {ROPEBONNET_MOST_INPUTS, ROPEBONNET_MOST_CONSTANTS, ROPEBONNET_REGISTER_WORDS,
+                                         3 * STEPS, 13};
+    const size_t lengths[BUFFERS] = {length, length, length, length, 13};
+    in_pages(used, lengths, LAST, &wanted, length == 5000 ? "lent 5,000 words" : "lent 2^32 words");
+}
+
+static void memory_too_long(size_t length)
+{
+    static struct words same;
+    size_t lengths[BUFFERS];
+    memcpy(lengths, exact, sizeof lengths);
+    lengths[MEMORY] = length;
+    fill(&same);
+    same.answer = refused(ROPEBONNET_MEMORY_TOO_LONG, 0);
+    in_pages(exact, lengths, LAST, &same, "memory of 2^32 words and more");
 }
 
 /* A file may start at any byte, words at any multiple of four. */
@@ -258,8 +242,12 @@ int main(void)
     expected(&wanted);
     as_expected();
     all_exchanges();
-    between_guards(0);
-    between_guards(1);
+    in_pages(exact, exact, FIRST, &wanted, "against the first page");
+    in_pages(exact, exact, LAST, &wanted, "against the last page");
+    longer_than_used(5000);
+    longer_than_used(TWO_TO_32);
+    memory_too_long(TWO_TO_32);
+    memory_too_long(TWO_TO_32 + 13);
     aligned_otherwise();
     read_twice();
     return faults != 0;

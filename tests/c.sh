@@ -1,6 +1,6 @@
 #!/usr/bin/env bash
-# Tests the C interface: what the header says of target/staticlib/libropebonnet.a (`rt staticlib ropebonnet`), the example
-# host, and what `make install` installs (with target/bin/tgsi_run, `rt check tgsi_run`).
+# Tests the C interface: what the header says of target/staticlib/libropebonnet.a, the example host, and what `make install`
+# installs, with target/bin/tgsi_run. `make build` builds both.
 set -euo pipefail
 cd "$(dirname "$0")/.."
 library=target/staticlib/libropebonnet.a
@@ -121,13 +121,49 @@ installed() {
     [ -z "$(find "$to" ! -type d)" ] || die "make uninstall left something"
 }
 
-# Below DESTDIR lies the same, and nothing in it names DESTDIR.
+# Below DESTDIR, which may have any name, lies the same, and nothing in it names DESTDIR. What a PREFIX may be, the script says.
 staged() {
-    make -s install PREFIX=/opt/ropebonnet "DESTDIR=$room/staged"
-    (cd "$room/staged" && find . ! -type d | sort) | diff <(printf './opt/ropebonnet/%s\n' bin/tgsi_run include/ropebonnet.h \
+    local to="$room/a stage's" prefix
+    make -s install PREFIX=/opt/ropebonnet "DESTDIR=$to"
+    (cd "$to" && find . ! -type d | sort) | diff <(printf './opt/ropebonnet/%s\n' bin/tgsi_run include/ropebonnet.h \
         lib/libropebonnet.a lib/pkgconfig/ropebonnet.pc libexec/ropebonnet/tgsi_run) - || die "DESTDIR: other files"
-    grep -qx 'prefix=/opt/ropebonnet' "$room/staged/opt/ropebonnet/lib/pkgconfig/ropebonnet.pc" || die "DESTDIR: prefix"
-    ! make -s install PREFIX=relative "DESTDIR=$room/staged" 2>"$room/refused" || die "a relative PREFIX was taken"
+    grep -qx 'prefix=/opt/ropebonnet' "$to/opt/ropebonnet/lib/pkgconfig/ropebonnet.pc" || die "DESTDIR: prefix"
+    for prefix in relative "/it's" '/a b' '/a;b' '/a"b'; do
+        ! make -s install "PREFIX=$prefix" "DESTDIR=$room/none" 2>"$room/said" || die "PREFIX=$prefix was taken"
+        grep -q '^install: PREFIX has' "$room/said" || die "PREFIX=$prefix: other words"
+    done
+    [ ! -e "$room/none" ] || die "a PREFIX that was refused left something"
+}
+
+# `not_installed WORDS`: make install in $room/tree says so, and puts nothing there.
+not_installed() {
+    ! make -s -C "$room/tree" install "PREFIX=$room/tree/to" 2>"$room/said" || die "installed, though $1"
+    grep -qxF "install: $1" "$room/said" || die "make install does not say: $1"
+    [ ! -e "$room/tree/to" ] || die "something was installed, though $1"
+}
+
+# What was built before a source, a definition or the header was changed is not installed, nor is what was not built.
+stale() {
+    local tree=$room/tree file changed
+    local built=(target/staticlib/libropebonnet.a target/bin/tgsi_run)
+    local of=(crates/a/src/lib.rt crates/a/src/inner/b.rt crates/a/specs/C.antt include/ropebonnet.h)
+    for file in "${built[@]}" "${of[@]}"; do
+        install -D -m 644 -- /dev/null "$tree/$file"
+    done
+    cp -r include scripts Makefile "$tree"
+    find "$tree" -type f -exec touch -d '2020-01-01 00:00:00' {} +
+    make -s -C "$tree" install "PREFIX=$tree/to" || die "what is up to date is not installed"
+    rm -r "$tree/to"
+    for file in "${built[@]}"; do
+        for changed in "${of[@]}"; do
+            find "$tree" -type f -exec touch -d '2020-01-01 00:00:00' {} +
+            touch -d '2020-01-01 00:00:02' "$tree/$changed" "${built[@]/#/$tree/}"
+            touch -d '2020-01-01 00:00:01' "$tree/$file"
+            not_installed "$file is older than $changed: make build"
+        done
+    done
+    rm "$tree/$file"
+    not_installed "$file is missing: make build"
 }
 
 header_alone
@@ -138,6 +174,8 @@ tries refusals -O2
 tries layout -O2
 tries buffers -O2
 tries buffers "${sanitized[@]}"
+tries files -O2
+tries files "${sanitized[@]}"
 tries stack -O2 -Wl,-z,now
 tries threads -O2 -pthread
 freestanding
@@ -145,4 +183,5 @@ example -O2
 example "${sanitized[@]}"
 installed
 staged
+stale
 echo "C interface: ok"

@@ -1,5 +1,6 @@
 /* The header by itself, as C89, as C11 and as C++: it includes what it uses, its structs are laid out as the library's,
- * its numbers are document 01's, and its functions link. The first line includes nothing before it.
+ * its numbers are document 01's, and its functions have the library's types and link. The first line includes nothing
+ * before it.
  */
 #include "ropebonnet.h"
 
@@ -30,6 +31,28 @@ HOLDS(address, ROPEBONNET_ADDR == 1152);
 HOLDS(statuses, ROPEBONNET_DONE == 0 && ROPEBONNET_HALTED == 1 && ROPEBONNET_REFUSED == 2);
 HOLDS(argument_in_brackets, ROPEBONNET_OUT(1 + 1) == 8 && ROPEBONNET_TEMP(1 + 1) == 136);
 
+/* A parameter of another width, sign or constness does not compile: the library's lengths are of 64 bits. */
+static struct ropebonnet_answer (*const check)(const uint8_t *, size_t) = ropebonnet_check;
+static struct ropebonnet_answer (*const prepare)(const uint8_t *, size_t, uint32_t *, size_t) = ropebonnet_prepare;
+static struct ropebonnet_answer (*const run)(const uint8_t *, size_t, const uint32_t *, size_t, const uint32_t *, size_t,
+                                             uint32_t *, size_t, uint32_t *, size_t, uint32_t *, size_t,
+                                             uint32_t) = ropebonnet_run;
+static struct ropebonnet_part (*const record)(const uint8_t *, size_t, size_t) = ropebonnet_record;
+static struct ropebonnet_needs (*const needs)(const uint8_t *, size_t) = ropebonnet_needs;
+static uint32_t (*const version)(void) = ropebonnet_version;
+static uint32_t (*const row_words)(void) = ropebonnet_row_words;
+
+/* Nor does a member of another type. */
+static uint32_t sum(const uint32_t *a, const uint32_t *b, const uint32_t *c)
+{
+    return *a + *b + *c;
+}
+
+static size_t end(const size_t *start, const size_t *length)
+{
+    return *start + *length;
+}
+
 /* Case 12 of document 01. */
 static const uint8_t program[] = {1, 3, 0, 0, 0, 0, 2, 25, 0, 0, 0, 0, 0, 0, 0, 0, 0,
                                   0, 0, 0, 0, 0, 0, 16, 3, 0, 0, 1, 6, 0, 0, 228, 0, 137};
@@ -38,15 +61,16 @@ int main(void)
 {
     static uint32_t registers[ROPEBONNET_REGISTER_WORDS];
     uint32_t work[ROPEBONNET_WORK_WORDS * 2];
-    struct ropebonnet_answer answer;
-    if (ropebonnet_check(program, sizeof program).first != 2 ||
-        ropebonnet_prepare(program, sizeof program, work, 6).first != 2 ||
-        ropebonnet_needs(program, sizeof program).outputs != 1 ||
-        ropebonnet_record(program, sizeof program, 1).length != 17 ||
-        ropebonnet_version() != ROPEBONNET_VERSION || ropebonnet_row_words() != ROPEBONNET_WORK_WORDS) {
+    struct ropebonnet_answer answer = check(program, sizeof program);
+    struct ropebonnet_part part = record(program, sizeof program, 1);
+    struct ropebonnet_needs n = needs(program, sizeof program);
+    if (sum(&answer.status, &answer.first, &answer.second) != 2 || end(&part.start, &part.length) != 23 ||
+        sum(&n.status, &n.first, &n.second) != 2 || sum(&n.instructions, &n.work_words, &n.input_words) != 8 ||
+        sum(&n.constant_words, &n.outputs, &n.memory) != 1 ||
+        prepare(program, sizeof program, work, 6).first != 2 || version() != ROPEBONNET_VERSION ||
+        row_words() != ROPEBONNET_WORK_WORDS) {
         return 1;
     }
-    answer = ropebonnet_run(program, sizeof program, NULL, 0, NULL, 0, registers, ROPEBONNET_REGISTER_WORDS, work, 6,
-                            NULL, 0, 2);
+    answer = run(program, sizeof program, NULL, 0, NULL, 0, registers, ROPEBONNET_REGISTER_WORDS, work, 6, NULL, 0, 2);
     return answer.status != ROPEBONNET_DONE || registers[ROPEBONNET_OUT(0)] != 25;
 }

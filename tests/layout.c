@@ -1,5 +1,6 @@
-/* The header's numbers against the library: where registers and memory lie, what an answer's words are, what a program
- * needs, where records lie, and the version. What is expected is document 01's.
+/* The header's numbers against the library: where registers and memory lie, what a program sees of its constants, what
+ * an answer's words are, every size of a budget, what a program needs, where records lie, and the version. What is
+ * expected is document 01's.
  */
 #include "expect.h"
 #include "program.h"
@@ -110,6 +111,31 @@ static void memory_lies(void)
            "STORE to the last two words");
 }
 
+/* "a negative or undeclared sum reads 0": CONST[2] is lent and left out between declared ones. */
+static void constants_seen(void)
+{
+    static const uint32_t sums[] = {2, 3, 4, 0xFFFFFFFFu};
+    static const uint32_t zeros[4];
+    p.length = 0;
+    declare(&p, CONST, 0, 1);
+    declare(&p, CONST, 3, 3);
+    declare(&p, OUT, 0, 3);
+    declare(&p, ADDR, 0, 0);
+    for (unsigned i = 0; i < 4; i++) {
+        immediate(&p, sums[i], 0, 0, 0);
+    }
+    for (unsigned i = 0; i < 4; i++) {
+        move(UARL, ADDR, 0, IMM, i);
+        destination(&p, MOV, OUT, i, XYZW);
+        source(&p, CONST, 0, TO_XYZW, BY_ADDR_X);
+    }
+    byte(&p, END);
+    EXPECT_ANSWER(run(BUDGET), done(9), "constants by ADDR");
+    for (unsigned i = 0; i < 4; i++) {
+        EXPECT(are_words(ROPEBONNET_OUT(i), sums[i] == 3 ? constants + 12 : zeros), "CONST[0] by ADDR of %x", sums[i]);
+    }
+}
+
 /* Document 01's case 12. */
 static void statuses(void)
 {
@@ -127,6 +153,25 @@ static void statuses(void)
     EXPECT_ANSWER(ropebonnet_prepare(p.bytes, p.length, work, 7), done(2), "case 12: prepared");
     const uint32_t table[] = {23, 0, 0, 33, 0, 0, PAINT};
     EXPECT(memcmp(work, table, sizeof table) == 0, "case 12: the table");
+}
+
+/* "A budget is an unsigned 32-bit number." Case 12 ends in 2 steps; a loop without BRK takes all that there are. */
+static void budgets(void)
+{
+    enum { STEPS = 20000001 };
+    case_12(&p);
+    for (uint32_t budget = 2; budget != 0; budget *= 2) {
+        EXPECT_ANSWER(run(budget), done(2), "case 12: budget %u", budget);
+    }
+    EXPECT_ANSWER(run(UINT32_MAX), done(2), "case 12: the greatest budget");
+    EXPECT(registers[ROPEBONNET_OUT(0)] == 25, "case 12, the greatest budget: OUT[0].x");
+    p.length = 0;
+    byte(&p, BGNLOOP);
+    byte(&p, NOP);
+    byte(&p, ENDLOOP);
+    byte(&p, END);
+    EXPECT_ANSWER(run(STEPS), halted(STEPS, 1), "a loop, an odd budget");
+    EXPECT_ANSWER(run(STEPS - 1), halted(STEPS - 1, 2), "a loop, an even budget");
 }
 
 static void expect_part(size_t length, size_t n, size_t start, size_t part_length)
@@ -151,6 +196,42 @@ static void records(void)
     expect_part(ROPEBONNET_LONGEST_FILE, ROPEBONNET_LONGEST_FILE - 1, 65535, 1);
     expect_part(ROPEBONNET_LONGEST_FILE, SIZE_MAX, 65536, 0);
     expect_part(ROPEBONNET_LONGEST_FILE + 1, 0, 65537, 0);
+}
+
+/* Every kind of the table three times, 267 records; the bytes of bodies are no kind. */
+static void records_of_all_kinds(void)
+{
+    enum { ROUNDS = 3, RECORDS = 267 };
+    size_t starts[RECORDS + 1], count = 0;
+    p.length = 0;
+    for (unsigned i = 0; i < 256 * ROUNDS; i++) {
+        if (body(i % 256) != UNKNOWN && count < RECORDS) {
+            starts[count++] = p.length;
+            byte(&p, i % 256);
+            bytes(&p, 0xFF, body(i % 256));
+        }
+    }
+    starts[count] = p.length;
+    EXPECT(count == RECORDS, "there are %zu records", count);
+    for (size_t n = 0; n < count; n++) {
+        expect_part(p.length, n, starts[n], starts[n + 1] - starts[n]);
+    }
+    expect_part(p.length, count, p.length, 0);
+}
+
+static void unknown_records(void)
+{
+    for (unsigned kind = 0; kind < 256; kind++) {
+        if (body(kind) == UNKNOWN) {
+            p.length = 0;
+            byte(&p, NOP);
+            byte(&p, kind);
+            bytes(&p, NOP, 30);
+            expect_part(p.length, 0, 0, 1);
+            expect_part(p.length, 1, p.length, 0);
+            expect_part(p.length, 2, p.length, 0);
+        }
+    }
 }
 
 static void expect_needs(struct ropebonnet_needs wanted, const char *what)
@@ -188,9 +269,35 @@ static void some_needs(void)
     EXPECT_ANSWER(run_lent(16, 40, 20), refused(ROPEBONNET_WORK_SHORT, 0), "a working word less");
 }
 
+/* What a program needs that declares one register. */
+static void expect_needs_of_one(unsigned file, unsigned index, uint32_t inputs_asked, uint32_t constants_asked,
+                                uint32_t outputs)
+{
+    p.length = 0;
+    declare(&p, file, index, index);
+    byte(&p, END);
+    expect_needs((struct ropebonnet_needs){ROPEBONNET_DONE, 1, 0, 1, 3, inputs_asked, constants_asked, outputs, 0},
+                 "one register");
+}
+
+static void needs_of_each_register(void)
+{
+    for (unsigned i = 0; i < 1024; i++) {
+        expect_needs_of_one(CONST, i, 0, 4 * (i + 1), 0);
+    }
+    for (unsigned i = 0; i < 32; i++) {
+        expect_needs_of_one(IN, i, 4 * (i + 1), 0, 0);
+        expect_needs_of_one(OUT, i, 0, 0, 1u << i);
+    }
+    for (unsigned i = 0; i < TEMPS; i++) {
+        expect_needs_of_one(TEMP, i, 0, 0, 0);
+    }
+}
+
 static void needs(void)
 {
     some_needs();
+    needs_of_each_register();
     p.length = 0;
     byte(&p, END);
     expect_needs((struct ropebonnet_needs){ROPEBONNET_DONE, 1, 0, 1, 3, 0, 0, 0, 0}, "END alone");
@@ -211,8 +318,12 @@ int main(void)
     registers_lie();
     inputs_lie();
     memory_lies();
+    constants_seen();
     statuses();
+    budgets();
     records();
+    records_of_all_kinds();
+    unknown_records();
     needs();
     EXPECT(ropebonnet_version() == ROPEBONNET_VERSION, "the library has version %u", ropebonnet_version());
     EXPECT(ropebonnet_row_words() == ROPEBONNET_WORK_WORDS, "a row has %u words", ropebonnet_row_words());

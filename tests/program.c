@@ -2,6 +2,20 @@
 
 #include <stdlib.h>
 
+unsigned body(unsigned kind)
+{
+    static const struct {
+        unsigned first, last, length;
+    } rows[] = {{0x01, 0x01, 5},  {0x02, 0x02, 16}, {0x10, 0x1E, 9},  {0x20, 0x37, 14}, {0x40, 0x52, 14},
+                {0x56, 0x5F, 14}, {0x60, 0x64, 19}, {0x70, 0x70, 24}, {0x80, 0x89, 0},  {0x90, 0x92, 5}};
+    for (size_t i = 0; i < sizeof rows / sizeof rows[0]; i++) {
+        if (rows[i].first <= kind && kind <= rows[i].last) {
+            return rows[i].length;
+        }
+    }
+    return UNKNOWN;
+}
+
 void byte(struct program *p, unsigned value)
 {
     if (p->length == sizeof p->bytes) {

@@ -46,6 +46,10 @@ enum { TO_XYZW = 0xE4, TO_XXXX = 0x00, TO_YYYY = 0x55, TO_ZZZZ = 0xAA, TO_WWWW =
 /* Modifiers: "negate + 2·indirect, indirect 0 for none or 1 to 4 for ADDR[0].x to .w" */
 enum { PLAIN = 0, NEGATE = 1, BY_ADDR_X = 2, BY_ADDR_W = 8 };
 
+/* The length of the body that document 01's table gives a kind. */
+enum { UNKNOWN = 255 };
+unsigned body(unsigned kind);
+
 /* One byte more than a file may have. */
 struct program {
     uint8_t bytes[ROPEBONNET_LONGEST_FILE + 1];
