@@ -19,6 +19,7 @@ use Rattle.checker.proofs.Followed.{followed}
 use Rattle.destinations.specs.Destinations.{State}
 use Rattle.effects.specs.Effect.{state}
 use Rattle.sources.specs.Operands.{wordIn}
+use Rattle.admission.specs.declared.Sizes.{Sizes}
 use Rattle.admission.specs.Admission.{admissionOf}
 use Rattle.admission.proofs.Admitting.{Admitted, admitted-is, lent-enough}
 use Rattle.preparation.specs.Preparing.{preparedIn}
@@ -59,44 +60,46 @@ answered-halted stop report next e = rw e
 
 -- ---- The run
 
-module _ (file inputs constants registers work memory : List ℕ) (c : Checked) (words before : List ℕ)
-    (answer : examinedAs c words ≡ examined (admissionOf file (sizesOf inputs constants (lent registers work memory))) before)
+-- What was admitted, by whatever sizes; that they are those of what is lent is asked last.
+module _ (file inputs constants registers work memory : List ℕ) (sizes : Sizes) (c : Checked) (words before : List ℕ)
+    (answer : examinedAs c words ≡ examined (admissionOf file sizes) before)
   where
     abbrev over : Lent
     over = lent registers work memory
 
-    admission-said : outcome c words ≡ admissionOf file (sizesOf inputs constants over)
-    admission-said = outcome-is c words before (admissionOf file (sizesOf inputs constants over)) answer
+    admission-said : outcome c words ≡ admissionOf file sizes
+    admission-said = outcome-is c words before (admissionOf file sizes) answer
 
-    pub run-refused : (budget number place : ℕ) → c .verdict ≡ Refused number place → after (said (breaks number place)) over ≡ runOf file inputs constants over budget
+    pub run-refused : (budget number place : ℕ) → c .verdict ≡ Refused number place → sizes ≡ sizesOf inputs constants over
+        → after (said (breaks number place)) over ≡ runOf file inputs constants over budget
     unfolding runOf runAdmitted
-    run-refused budget number place e =
-        let is : admissionOf file (sizesOf inputs constants over) ≡ refused number place = sym admission-said ∙ ap (λ v. concluded v (programSeen (c .program) words [])) e in
-        rw is
+    run-refused budget number place e measured =
+        let is : admissionOf file sizes ≡ refused number place = sym admission-said ∙ ap (λ v. concluded v (programSeen (c .program) words [])) e in
+        rw (← measured, is)
 
     -- The program that was seen is admitted, and came to a stop.
     module _ (n budget : ℕ) (stop : Stop) (r′ w m′ : List ℕ)
         (made : w ≡ filled file (c .program .start) (c .program .instructions) work)
         (came : reached stop (state r′ m′) ≡ byRows file w (bankEnv (isIn (c .program .declared)) words inputs constants) budget 0 0 (state (zeroed registers) memory))
-        (e : c .verdict ≡ Accepted n)
+        (e : c .verdict ≡ Accepted n) (r-lent : sizes .registers ≡ length registers) (w-lent : sizes .work ≡ length work)
       where
         abbrev seen : Seen
         seen = programSeen (c .program) words []
 
-        admits : admissionOf file (sizesOf inputs constants over) ≡ accepted seen
+        admits : admissionOf file sizes ≡ accepted seen
         admits = sym admission-said ∙ ap (λ v. concluded v (programSeen (c .program) words [])) e
 
         -- The immediates are the first of the words, and 0 follows them.
         padded : wordIn words ≡ wordIn (take (4 * c .program .immediates) words)
         padded =
             padded-words words (take (4 * c .program .immediates) words) (1024 - length (take (4 * c .program .immediates) words))
-            (words-are c words before (admissionOf file (sizesOf inputs constants over)) answer ∙ ap (λ o. wordsAfter o before) admits)
+            (words-are c words before (admissionOf file sizes) answer ∙ ap (λ o. wordsAfter o before) admits)
 
-        holds : Admitted seen file (sizesOf inputs constants over)
-        holds = admitted-is file (sizesOf inputs constants over) seen admits
+        holds : Admitted seen file sizes
+        holds = admitted-is file sizes seen admits
 
         fits : (1156 ≤ length registers) × (rowWords * c .program .instructions ≤ length work)
-        fits = lent-enough seen (sizesOf inputs constants over) (holds .none-due)
+        fits = rw (← r-lent, ← w-lent) (lent-enough seen sizes (holds .none-due))
 
         w-prepared : w ≡ preparedIn seen file work
         w-prepared = made ∙ table-made seen file work (holds .follows) (fits .1)
@@ -124,14 +127,14 @@ module _ (file inputs constants registers work memory : List ℕ) (c : Checked) 
                   followed file seen (holds .follows) .1 .most,
                 )
 
-        module _ (r : Outcome) (told : runAnswer r ≡ stopAnswer stop) where
+        module _ (r : Outcome) (told : runAnswer r ≡ stopAnswer stop) (measured : sizes ≡ sizesOf inputs constants over) where
           pub carried-out : after (runAnswer r) (lent r′ w m′) ≡ runOf file inputs constants over budget
           unfolding runOf runAdmitted
           carried-out =
               ap (λ (a : Answer). after a (lent r′ w m′)) told
               ∙ reported-is stop w (state r′ m′)
               ∙ ap (reported w) carried
-              ∙ rw (admits, w-prepared)
+              ∙ rw (← measured, admits, w-prepared)
 
           -- Every answer of a run is within the budget.
           pub carried-within : stepsOf (runAnswer r) ≤ budget
