@@ -62,11 +62,11 @@ pub fn umin32(a: u32, b: u32) -> u32
     if a < b { a } else { b }
 }
 
-// U64MIN. Here and in `umax64` the test stands the other way than in 32 bits: an edit of must-fail/ finds its line by the text.
+// U64MIN.
 pub fn umin64(a: u64, b: u64) -> u64
     ensures { λ r. ⌜ r ≡ umin a b ⌝ }
 {
-    if b <= a { b } else { a }
+    if a < b { a } else { b }
 }
 
 // UMAX, ATOMUMAX.
@@ -80,7 +80,7 @@ pub fn umax32(a: u32, b: u32) -> u32
 pub fn umax64(a: u64, b: u64) -> u64
     ensures { λ r. ⌜ r ≡ umax a b ⌝ }
 {
-    if b <= a { a } else { b }
+    if a < b { b } else { a }
 }
 
 // UCMP.

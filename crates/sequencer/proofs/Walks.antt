@@ -99,12 +99,12 @@ module _ (immediates file rows : List ℕ) (x f m other w found p : ℕ)
     pub label-found : (found ≡ 0 → ⊥) → walk op value (rowIn rows) f x m other ≡ w → found ≡ w
     label-found n e = walk-found op value (rowIn rows) x f m other w found h d at-place n e
 
--- A label was passed: the walk from the next one comes to w.
-pub record Passed (immediates file rows : List ℕ) (x f m o w : ℕ) : Type 0 where
-  pub onward : walk (opsOf file (placeIn rows)) (casesOf immediates file (placeIn rows)) (rowIn rows) (f - 1) x (rowIn rows m .label) o ≡ w
+-- A label is passed, and `other` becomes o: a walk from it that comes to w goes on from the next one.
+pub record Passed (immediates file rows : List ℕ) (x f m other o w : ℕ) : Type 0 where
+  pub onward : walk (opsOf file (placeIn rows)) (casesOf immediates file (placeIn rows)) (rowIn rows) f x m other ≡ w
+      → walk (opsOf file (placeIn rows)) (casesOf immediates file (placeIn rows)) (rowIn rows) (f - 1) x (rowIn rows m .label) o ≡ w
 
 pub label-passed : (immediates file rows : List ℕ) (x f m other w found p k o : ℕ)
-    → walk (opsOf file (placeIn rows)) (casesOf immediates file (placeIn rows)) (rowIn rows) f x m other ≡ w
     → 0 < f
     → (m ≡ 0 → ⊥)
     → o ≡ cond (is DEFAULT (opOf k)) (suc m) other
@@ -112,14 +112,17 @@ pub label-passed : (immediates file rows : List ℕ) (x f m other w found p k o 
     → p ≡ placeIn rows m
     → found ≡ cond (isCaseAt immediates file p x) (suc m) 0
     → found ≡ 0
-    → Passed immediates file rows x f m o w
-label-passed immediates file rows x f m other w found p k o e h d eo ek ep ef z =
+    → Passed immediates file rows x f m other o w
+label-passed immediates file rows x f m other w found p k o h d eo ek ep ef z =
     record {
       onward =
           walk-on (opsOf file (placeIn rows)) (casesOf immediates file (placeIn rows)) (rowIn rows) x f m other w found o (rowIn rows m .label) h d
-          (at-place immediates file rows x f m other w found p h d ep ef) z (rw (← ep, ← ek) eo) refl e;
+          (at-place immediates file rows x f m other w found p h d ep ef) z (rw (← ep, ← ek) eo) refl;
     }
 
-pub label-on : (immediates file rows : List ℕ) (x f m w o n : ℕ) → n ≡ rowIn rows m .label → Passed immediates file rows x f m o w
+pub label-on : (immediates file rows : List ℕ) (x f m other w o n : ℕ)
+    → walk (opsOf file (placeIn rows)) (casesOf immediates file (placeIn rows)) (rowIn rows) f x m other ≡ w
+    → n ≡ rowIn rows m .label
+    → Passed immediates file rows x f m other o w
     → walk (opsOf file (placeIn rows)) (casesOf immediates file (placeIn rows)) (rowIn rows) (f - 1) x n o ≡ w
-label-on immediates file rows x f m w o n en passed = rw en (passed .onward)
+label-on immediates file rows x f m other w o n e en passed = rw en (passed .onward e)
