@@ -1,10 +1,10 @@
 -- Numbers and operands at a place p of the file. "Numbers are little-endian."
 -- Assumes nothing.
-use Prim.Native.Nat.{ℕ, _+_, _*_, _/_, _%_}
-use mathlib.Core.Bool.{Bool, not}
-use mathlib.Core.List.{List}
+use Prim.Native.Nat.{ℕ, zero, suc, _+_, _*_, _/_, _%_, _<_}
+use mathlib.Core.Bool.{Bool, cond, not}
+use mathlib.Core.List.{List, [], _∷_}
 use lib.Dec.{eqb}
-use lib.ListN.{getD}
+use lib.ListN.{length, getD}
 use Rattle.format.specs.declared.fields.Destination.{Destination}
 use Rattle.format.specs.declared.fields.Source.{Source}
 use Rattle.format.specs.declared.fields.Declaration.{Declaration}
@@ -14,6 +14,19 @@ word16 file p = getD file p 0 + 256 * getD file (p + 1) 0
 
 unfoldable pub word32 : List ℕ → ℕ → ℕ
 word32 file p = getD file p 0 + 256 * getD file (p + 1) 0 + 65536 * getD file (p + 2) 0 + 16777216 * getD file (p + 3) 0
+
+-- The number of a field that has so many bytes: 1, 2 or 4.
+unfoldable pub numberAt : List ℕ → ℕ → ℕ → ℕ
+numberAt file p width = cond (eqb width 1) (getD file p 0) (cond (eqb width 2) (word16 file p) (word32 file p))
+
+-- The lowest bytes of a number, so many of them, the lowest first.
+unfoldable pub littleEndian : ℕ → ℕ → List ℕ
+littleEndian zero n = []
+littleEndian (suc width) n = n % 256 ∷ littleEndian width (n / 256)
+
+-- A list of bytes, as every file is that is lent.
+abbrev pub Bytes : List ℕ → Type 0
+Bytes file = (i : ℕ) → i < length file → getD file i 0 < 256
 
 -- "Destination: file 1, index 2, mask 1 (bit 0 is x)."
 unfoldable pub destinationAt : List ℕ → ℕ → Destination

@@ -1,4 +1,5 @@
--- The refusals by number, each under its row (document 01, "Refusals by number").
+-- The refusals by number, each under its row (document 01, "Refusals by number"; document 02, W1). 31 stands in `text`, which depends on
+-- nothing (text/specs/Output.antt).
 -- Assumes nothing.
 use Prim.Native.Nat.{ℕ}
 
@@ -74,3 +75,7 @@ workingShort = 23
 -- "memory over 16,384 words"
 abbrev pub memoryLong : ℕ
 memoryLong = 24
+
+-- "in reading, 30 malformed line (also an unknown kind or a number too large for its field; place: its first byte)" (document 02, W1)
+abbrev pub malformedLine : ℕ
+malformedLine = 30

@@ -1,6 +1,7 @@
 // Kinds of records: how long the body of each is, and which operands it has.
 ghost use mathlib.Core.Path.{_≡_};
-ghost use Rattle.format.specs.Kinds.{lengthOf, formOf, destinations, sources, firstSource};
+ghost use lib.ListN.{getD};
+ghost use Rattle.format.specs.Kinds.{lengthOf, formOf, destinations, sources, firstSource, widths, declaration, immediate, instruction};
 
 // What the table holds for an unknown kind.
 pub const UNKNOWN: u8 = 255;
@@ -300,4 +301,53 @@ pub fn first_source(kind: u8) -> u8
     ensures { λ r. ⌜ r ≡ firstSource kind ⌝ }
 {
     1 + 4 * destinations_of(kind)
+}
+
+// "declaration: file 1, first 2, last 2"
+fn declaration_width(i: u8) -> u8
+    ensures { λ r. ⌜ r ≡ getD (widths declaration) i 0 ⌝ }
+{
+    match i {
+        0 => 1,
+        1 => 2,
+        2 => 2,
+        _ => 0,
+    }
+}
+
+// "immediate: four words"
+fn immediate_width(i: u8) -> u8
+    ensures { λ r. ⌜ r ≡ getD (widths immediate) i 0 ⌝ }
+{
+    if i < 4 { 4 } else { 0 }
+}
+
+// "file 1, index 2, mask 1" and "file 1, index 2, swizzle 1 .., modifier 1": only the index has two bytes.
+fn operand_width(destinations: u8, sources: u8, i: u8) -> u8
+    ensures { λ r. ⌜ r ≡ getD (widths (instruction destinations sources)) i 0 ⌝ }
+{
+    let field = i as u16;
+    let sources_from = 3 * destinations as u16;
+    if field < sources_from {
+        return if field % 3 == 1 { 2 } else { 1 };
+    }
+    if field - sources_from < 4 * sources as u16 {
+        return if (field - sources_from) % 4 == 1 {
+            2
+        } else {
+            1
+        };
+    }
+    0
+}
+
+// How many bytes field i of a record of this kind has, counted from 0 after the kind; 0 past the last.
+pub fn field_width(kind: u8, i: u8) -> u8
+    ensures { λ r. ⌜ r ≡ getD (widths (formOf kind)) i 0 ⌝ }
+{
+    match kind {
+        1 => declaration_width(i),
+        2 => immediate_width(i),
+        _ => operand_width(destinations_of(kind), sources_of(kind), i),
+    }
 }

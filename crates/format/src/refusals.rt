@@ -54,3 +54,6 @@ pub const WORKING_SHORT: u8 = 23;
 
 // "memory over 16,384 words"
 pub const MEMORY_LONG: u8 = 24;
+
+// "in reading, 30 malformed line (also an unknown kind or a number too large for its field; place: its first byte)" (document 02, W1)
+pub const MALFORMED_LINE: u8 = 30;

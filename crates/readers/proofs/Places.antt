@@ -4,8 +4,10 @@ use mathlib.Core.Path.{_≡_, _∙_}
 use mathlib.Core.List.{List}
 use Prim.Native.Nat.{ℕ, _+_, _-_, _*_, _%_, _≤_}
 use native.Mathlib.Omega.{arith}
+use native.Mathlib.Nat.{add-zero}
+use borrow.Author.Tests.{ne-eqb}
 use lib.ListN.{length, getD}
-use Rattle.format.specs.Fields.{word16, word32, destinationAt, sourceAt, declarationAt, caseWord}
+use Rattle.format.specs.Fields.{word16, word32, numberAt, destinationAt, sourceAt, declarationAt, caseWord}
 use Rattle.format.proofs.Ends.{past-end}
 
 -- Past the end there is 0.
@@ -34,6 +36,19 @@ module _ (file : List ℕ) (p : ℕ) where
       → a + 256 * b + 65536 * c + 16777216 * d ≡ word32 file p
   unfolding word32
   word32-is a b c d ea eb ec ed = cc
+
+  -- The number of a field, by its width.
+  pub number-of-one : (w r : ℕ) → w ≡ 1 → r ≡ getD file p 0 → r ≡ numberAt file p w
+  unfolding numberAt
+  number-of-one w r h e = rw h e
+
+  pub number-of-two : (w r : ℕ) → w ≡ 2 → r ≡ word16 file (p + 0) → r ≡ numberAt file p w
+  unfolding numberAt
+  number-of-two w r h e = rw (h, ← add-zero p) e
+
+  pub number-of-four : (w r : ℕ) → (w ≡ 1 → ⊥) → (w ≡ 2 → ⊥) → r ≡ word32 file p → r ≡ numberAt file p w
+  unfolding numberAt
+  number-of-four w r n1 n2 e = rw (ne-eqb w 1 n1, ne-eqb w 2 n2) e
 
   pub destination-whole : (i : ℕ) → i ≡ getD file (p + 1) 0 + 256 * getD file (p + 2) 0
       → record { file = getD file p 0; index = i; mask = getD file (p + 3) 0 } ≡ destinationAt file p

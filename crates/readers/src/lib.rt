@@ -4,15 +4,34 @@ use format::fields::Declaration;
 use format::fields::Destination;
 use format::fields::Source;
 ghost use mathlib.Core.Path.{_≡_};
-ghost use Prim.Native.Nat.{_+_, _*_, _≤_};
+ghost use Prim.Native.Nat.{_+_, _*_, _<_, _≤_};
 ghost use lib.ListN.{getD, length};
-ghost use Rattle.format.specs.Fields.{word16, word32, destinationAt, sourceAt, declarationAt, caseWord};
+ghost use Rattle.format.specs.Fields.{word16, word32, numberAt, destinationAt, sourceAt, declarationAt, caseWord, Bytes};
 
 // The byte at a place.
 pub fn byte_at(bytes: &[u8], at: usize) -> u8
     ensures { λ r. ⌜ r ≡ getD (now (bytes .entry)) at 0 ⌝ }
 {
     if at < bytes.len() { bytes[at] } else { 0 }
+}
+
+// A byte is below 256.
+fn byte(b: u8) -> u8
+    ensures same { λ r. ⌜ r ≡ b ⌝ }
+    ensures small { λ _. ⌜ b < 256 ⌝ }
+{
+    b
+}
+
+// Nothing: that what is lent as bytes has bytes only is the contract alone, for laws that ask for it. No program has to call it.
+pub fn all_bytes(bytes: &[u8])
+    ensures { λ _. ⌜ Bytes (now (bytes .entry)) ⌝ }
+{
+    let mut i: usize = 0;
+    while i < bytes.len() {
+        byte(bytes[i]);
+        i += 1;
+    }
 }
 
 // The byte k places on: the sum of a place and an offset is taken only where it lies within the bytes, so that it cannot wrap.
@@ -51,6 +70,17 @@ pub fn u32_at(bytes: &[u8], at: usize) -> u32
         + 256 * byte_after(bytes, at, 1) as u32
         + 65536 * byte_after(bytes, at, 2) as u32
         + 16777216 * byte_after(bytes, at, 3) as u32
+}
+
+// The number of a field of this width at a place.
+pub fn number_at(bytes: &[u8], at: usize, width: u8) -> u32
+    ensures { λ r. ⌜ r ≡ numberAt (now (bytes .entry)) at width ⌝ }
+{
+    match width {
+        1 => byte_at(bytes, at) as u32,
+        2 => u16_after(bytes, at, 0) as u32,
+        _ => u32_at(bytes, at),
+    }
 }
 
 // The destination that stands at a place.
