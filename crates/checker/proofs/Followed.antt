@@ -29,7 +29,7 @@ use Rattle.checker.specs.Findings.{Seen, nothing, Finding, taken, due, i
 use Rattle.checker.specs.Check.{accepted, refused, onward, walk, checkOf}
 use Rattle.checker.proofs.Walking.{due-not-taken, past-due, taken-whole, taken-declaration, taken-immediate, taken-instruction, Passed, passed}
 
-not-accepted : {A : Type 0} {n p : ℕ} {s : Seen} → refused n p ≡ accepted s → A
+pub not-accepted : {A : Type 0} {n p : ℕ} {s : Seen} → refused n p ≡ accepted s → A
 not-accepted e = let z : _≡_ {A = ℕ} 0 1 = cc in absurd (omega arith)
 
 same-accepted : (s u : Seen) → accepted s ≡ accepted u → u ≡ s
@@ -79,13 +79,13 @@ module _ (file : List ℕ) where
 
   -- ---- One record of an accepted program
 
-  record Turned (k at : ℕ) (s f : Seen) : Type 0 where
-    after : Seen
-    inside : at < length file
-    found : recordFinding s file at ≡ taken after
-    rest : onward (taken after) file at (λ u. walk k file (at + sizeAt file at) u) ≡ accepted f
+  pub record Turned (k at : ℕ) (s f : Seen) : Type 0 where
+    pub after : Seen
+    pub inside : at < length file
+    pub found : recordFinding s file at ≡ taken after
+    pub rest : onward (taken after) file at (λ u. walk k file (at + sizeAt file at) u) ≡ accepted f
 
-  turned : (k at : ℕ) (s f : Seen) → walk (suc k) file at s ≡ accepted f → Turned k at s f
+  pub turned : (k at : ℕ) (s f : Seen) → walk (suc k) file at s ≡ accepted f → Turned k at s f
   unfolding walk
   turned k at s f e = by (ltb at (length file)) refl e where
     found-by : at < length file → (g : Finding) → recordFinding s file at ≡ g → onward g file at (λ u. walk k file (at + sizeAt file at) u) ≡ accepted f → Turned k at s f

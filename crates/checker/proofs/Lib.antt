@@ -5,3 +5,4 @@ pub mod Walking
 pub mod Examining
 pub mod Followed
 pub mod Accepted
+pub mod Told

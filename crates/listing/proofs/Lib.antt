@@ -1,0 +1,13 @@
+pub mod Listed
+pub mod Texts
+pub mod Delivering
+pub mod Within
+pub mod Quoted
+pub mod Example
+pub mod FieldBytes
+pub mod WholeRecords
+pub mod WellFormed
+pub mod RecordsIn
+pub mod RoundTrip
+pub mod ListingLength
+pub mod CallsBack
