@@ -1,8 +1,8 @@
 # make run        proves and builds the program and runs the example
 # make test       all tests; the last line is rt ci's own, 'N passed, 0 failed'
-# make bench      steps per second beside a plain interpreter, as it is and forced inline; the times of a smallest run, of check and prepare
-# make build      proves and builds the library for C and the program
-# make install    puts header, library, pkg-config file and program under PREFIX=/usr/local, below DESTDIR= if that is given
+# make bench      steps per second beside a plain interpreter, as it is and forced inline; the times of a smallest run, of check, prepare, print and read
+# make build      proves and builds the library for C and the programs
+# make install    puts header, library, pkg-config file and programs under PREFIX=/usr/local, below DESTDIR= if that is given
 # make uninstall  takes them away
 .PHONY: run test bench clean
 
@@ -32,8 +32,8 @@ export PREFIX DESTDIR
 # rt leaves a program as it is if no file that it is of has another content; install goes by times.
 build:
 	rt staticlib ropebonnet
-	rt check tgsi_run
-	@touch target/bin/tgsi_run
+	rt check tgsi_run tgsi_list tgsi_read
+	@touch target/bin/tgsi_run target/bin/tgsi_list target/bin/tgsi_read
 
 install:
 	scripts/install

@@ -1,14 +1,16 @@
 #!/bin/sh
-# Tests the example and the program that runs it: the files are what their sources say, bytes.sh and words.sh refuse what they
-# cannot write, and tgsi_run writes what README.md, docs/FORMAT.md and the help promise, by itself (target/bin/tgsi_run, made by
-# `rt check tgsi_run`) and as the installed command.
+# Tests the example and the programs for it: the files are what their sources say, bytes.sh and words.sh refuse what they
+# cannot write, and tgsi_run, tgsi_list and tgsi_read write what README.md, docs/FORMAT.md and the help promise, by themselves
+# (target/bin, made by `make build`) and as the installed commands.
 set -eu
 cd "$(dirname "$0")"
 room=$(mktemp -d)
 trap 'rm -rf "$room"' EXIT
 mkdir -p "$room/bin" "$room/libexec/ropebonnet"
-cp ../scripts/tgsi_run "$room/bin/tgsi_run"
-cp ../target/bin/tgsi_run "$room/libexec/ropebonnet/tgsi_run"
+for program in tgsi_run tgsi_list tgsi_read; do
+    cp ../scripts/command "$room/bin/$program"
+    cp "../target/bin/$program" "$room/libexec/ropebonnet/$program"
+done
 run=$room/bin/tgsi_run
 tests=0
 
@@ -99,7 +101,7 @@ measures 12345678 123456780 8 182
 measures 2.5 1850 3 87
 measures 2,,5 2 1 66
 
-# docs/FORMAT.md: its listings as they stand there, and its commands, each line after a $, with what they write below them.
+# docs/FORMAT.md: its tables as they stand there, and its commands, each line after a $, with what they write below them.
 # `page_section HEADING`: the indented lines under a heading.
 page_section() {
     awk -v heading="### $1" '/^#/ { on = $0 == heading } on && sub(/^    /, "")' ../docs/FORMAT.md
@@ -108,11 +110,15 @@ mkdir "$room/page"
 ln -s "$PWD" "$room/page/examples"
 page_section "A constant handed out" | grep -E '^ *[0-9]+ \|' >"$room/page/constant.txt"
 page_section "A sum of corrections that a list in memory names" | grep -E '^ *[0-9]+ \|' >"$room/page/sum.txt"
-page_section "From a listing to a run" >"$room/page/session"
+{ page_section "From a table to a run"; page_section "A listing and back"; } >"$room/page/session"
 [ "$(grep -c '^\$ tgsi_run ' "$room/page/session")" -eq 2 ] || { echo "docs/FORMAT.md: not two runs"; exit 1; }
+[ "$(grep -cE '^\$ tgsi_(list|read) ' "$room/page/session")" -eq 3 ] || { echo "docs/FORMAT.md: not a listing and back"; exit 1; }
 sed -n 's/^\$ //p' "$room/page/session" >"$room/page/commands"
 on_the_page() { (cd "$room/page" && PATH=$room/bin:$PATH sh -eu commands); }
 gives 0 "$(sed '/^\$ /d' "$room/page/session")" "" on_the_page
 
+: >"$room/empty"
+head -c 65537 /dev/zero >"$room/long"
+. ./check_listing.sh
 . ./check_command.sh
 echo "examples: ok, $tests tests of commands"

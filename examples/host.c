@@ -1,4 +1,5 @@
-/* A host: checks, prepares and runs a program, asks what it needs, and meets a refusal.
+/* A host: checks, prepares and runs a program, asks what it needs, prints its listing and reads that back, and meets
+ * refusals.
  *
  *     gcc -std=c11 -Wall -Wextra -Werror examples/host.c $(pkg-config --cflags --libs ropebonnet) -o host
  *     gcc -std=c11 -Wall -Wextra -Werror -Iinclude examples/host.c target/staticlib/libropebonnet.a -o host
@@ -60,6 +61,19 @@ static void run(uint32_t budget)
     printf("  OUT[0].x = %u\n", (unsigned)registers[ROPEBONNET_OUT(0)]);
 }
 
+/* Prints the program's listing and reads it back, whole and without its last line feed. */
+static void list(void)
+{
+    uint8_t listing[4 * sizeof program], file[sizeof program];
+    struct ropebonnet_answer answer = ropebonnet_print(program, sizeof program, listing, sizeof listing);
+    print_answer("print", answer);
+    if (answer.status == ROPEBONNET_DONE) {
+        fwrite(listing, 1, answer.first, stdout);
+        print_answer("read", ropebonnet_read(listing, answer.first, file, sizeof file));
+        print_answer("read, cut", ropebonnet_read(listing, answer.first - 1, file, sizeof file));
+    }
+}
+
 int main(void)
 {
     uint32_t table[ROPEBONNET_WORK_WORDS * 2];
@@ -82,6 +96,7 @@ int main(void)
     for (uint32_t budget = 3; budget-- > 0;) {
         run(budget);
     }
+    list();
 
     /* Without its last byte the file has no END, and five words are too few for two instructions. */
     print_answer("check without END", ropebonnet_check(program, sizeof program - 1));

@@ -1,12 +1,15 @@
-/* Ropebonnet: checks, prepares and runs TGSI integer programs over words the caller lends.
+/* Ropebonnet: checks, prepares and runs TGSI integer programs, prints their listings and reads these back, over words
+ * and bytes the caller lends.
  *
  * The library allocates nothing, keeps no pointer after a call, and reads and writes only what is lent to it. A call
- * that refuses leaves every lent word as it was. A call ends for all arguments that keep the rules of what is lent.
+ * that refuses leaves all that is lent as it was. A call ends for all arguments that keep the rules of what is lent.
  *
- * What is lent. A buffer is a pointer and its length, in bytes for a file and in words for all else.
- *   - Words are 4 byte aligned, as every uint32_t is. A file may start at any byte. A pointer whose length is 0 may be
- *     any, NULL among them.
- *   - Two buffers of one call must not overlap, unless both are only read. The compiler counts on it that a word
+ * What is lent. A buffer is a pointer and its length, in bytes for a file, a listing and an output, and in words for
+ * all else.
+ *   - Words are 4 byte aligned, as every uint32_t is. Bytes may start anywhere. A pointer whose length is 0 may be any,
+ *     NULL among them.
+ *   - An output is written from its front. The answer gives how many bytes were written, and the bytes past them stay.
+ *   - Two buffers of one call must not overlap, unless both are only read. The compiler counts on it that what is
  *     written through one pointer is not read through another, and what is proved is proved of buffers that lie apart:
  *     of a call that breaks this nothing is known, not even that it stays within its buffers.
  *
@@ -20,9 +23,10 @@
  *
  * Time. A run takes as long as its budget lets it: 5 to 40 nanoseconds a step, and a SWITCH some 3 more for each label
  * that it compares. At that the largest budget comes to 20 seconds of an empty loop, and to over an hour of a SWITCH
- * with 1,000 labels. Every other call, and a run up to its first step, takes under a millisecond. This was measured on
- * one machine, with the largest files among others, and is not proved; proved is that a run carries out no more steps
- * than its budget.
+ * with 1,000 labels. A read takes as long as its listing goes on: up to 10 nanoseconds a byte, so 3 milliseconds for
+ * one of ROPEBONNET_LONGEST_LISTING bytes. Every other call, and a run up to its first step, takes under a millisecond.
+ * This was measured on one machine, with the largest files among others, and is not proved; proved is that a run
+ * carries out no more steps than its budget.
  *
  * Where it is built. `make build` in its repository proves it and writes target/staticlib/libropebonnet.a;
  * `make install` installs what `make build` wrote.
@@ -40,10 +44,11 @@ extern "C" {
 /* The version that this header describes: 10000 * major + 100 * minor + patch. A host compares it with
  * ropebonnet_version(), and ROPEBONNET_WORK_WORDS with ropebonnet_row_words().
  */
-#define ROPEBONNET_VERSION 10000u
+#define ROPEBONNET_VERSION 10100u
 
 /* Limits of a program and of what is lent. */
 #define ROPEBONNET_LONGEST_FILE 65536u      /* bytes */
+#define ROPEBONNET_LONGEST_LISTING 262144u  /* bytes: no listing has more than 4 for each byte of its file */
 #define ROPEBONNET_MOST_INSTRUCTIONS 1024u
 #define ROPEBONNET_MOST_INPUTS 128u         /* words: no program asks for more, IN[0] to IN[31] */
 #define ROPEBONNET_MOST_CONSTANTS 4096u     /* words: no program asks for more, CONST[0] to CONST[1023] */
@@ -63,6 +68,8 @@ extern "C" {
 #define ROPEBONNET_PREPARE_STACK 32768u
 #define ROPEBONNET_RUN_STACK 81920u
 #define ROPEBONNET_RECORD_STACK 512u
+#define ROPEBONNET_PRINT_STACK 16384u
+#define ROPEBONNET_READ_STACK 98304u
 
 /* Where registers lie in the register words, four words each. */
 #define ROPEBONNET_OUT(i) (4u * (i))         /* OUT[0] to OUT[31] */
@@ -74,8 +81,9 @@ extern "C" {
 #define ROPEBONNET_HALTED 1u
 #define ROPEBONNET_REFUSED 2u
 
-/* Refusals of a file, given by every call but ropebonnet_record. The place is the first byte of the record, unless
- * stated.
+/* Refusals of a file, given by every call but ropebonnet_record; by ropebonnet_read of the file that the listing gives,
+ * and none of 3 and 4, since a line that is not malformed is a whole record of a known kind. The place is the first byte
+ * of the record, unless stated.
  */
 #define ROPEBONNET_FILE_TOO_LONG 1u         /* file over 65,536 bytes (place 0) */
 #define ROPEBONNET_BYTE_AFTER_END 2u        /* a byte follows END (place of that byte) */
@@ -98,13 +106,22 @@ extern "C" {
 #define ROPEBONNET_WORK_SHORT 23u           /* under 3 words an instruction */
 #define ROPEBONNET_MEMORY_TOO_LONG 24u      /* over 16,384 words */
 
+/* Refusals of a listing (by read alone, before those of a file) and of an output (by print and read, after those). */
+#define ROPEBONNET_MALFORMED_LINE 30u       /* also an unknown kind or a number too large for its field (place: its
+                                             * first byte in the listing) */
+#define ROPEBONNET_OUTPUT_SHORT 31u         /* under what would be written (place 0) */
+
 /* What a call answers. Words without a meaning are 0.
  *
  *   status                first                                     second
  *   ROPEBONNET_DONE       check, prepare: number of instructions    0
  *                         run: steps carried out, END among them
+ *                         print, read: bytes written
  *   ROPEBONNET_HALTED     steps carried out: the budget             number of the next instruction
- *   ROPEBONNET_REFUSED    number of the refusal                     byte place in the file
+ *   ROPEBONNET_REFUSED    number of the refusal                     byte place in the file: the lent one, or the one
+ *                                                                   that was read; of a malformed line in the listing
+ *
+ * A place over 4,294,967,295 in a listing is given as 4,294,967,295.
  */
 struct ropebonnet_answer {
     uint32_t status;
@@ -169,6 +186,20 @@ struct ropebonnet_part ropebonnet_record(const uint8_t *file, size_t file_length
 
 /* What a run of a file needs, so that a host can lend just that. */
 struct ropebonnet_needs ropebonnet_needs(const uint8_t *file, size_t file_length);
+
+/* Writes the listing of a program into `output`. One line per record: the kind, then its fields in file order, all
+ * decimal, no leading zeros, single spaces, a line feed after each; no 0 byte after the last. An output of four bytes
+ * for each byte of the file suffices for every program.
+ */
+struct ropebonnet_answer ropebonnet_print(const uint8_t *file, size_t file_length, uint8_t *output,
+                                          size_t output_length);
+
+/* Reads a listing and writes the program file that it gives into `output`; ROPEBONNET_LONGEST_FILE bytes suffice for
+ * every one. A line that ropebonnet_print would not have written just so is malformed, and so is a last one without its
+ * line feed. The listing of the file that was read is the one that was lent.
+ */
+struct ropebonnet_answer ropebonnet_read(const uint8_t *listing, size_t listing_length, uint8_t *output,
+                                         size_t output_length);
 
 /* The library's version and the words of a row of its table. */
 uint32_t ropebonnet_version(void);

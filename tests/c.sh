@@ -1,6 +1,6 @@
 #!/usr/bin/env bash
 # Tests the C interface: what the header says of target/staticlib/libropebonnet.a, the example host, and what `make install`
-# installs, with target/bin/tgsi_run. `make build` builds both.
+# installs, with the programs in target/bin. `make build` builds all of them.
 set -euo pipefail
 cd "$(dirname "$0")/.."
 library=target/staticlib/libropebonnet.a
@@ -114,9 +114,12 @@ installed() {
     gcc -std=c11 -Wall -Wextra -Werror examples/host.c "${flag[@]}" -o "$room/host"
     "$room/host" | diff examples/host.out - || die "host.c with what is installed: other output"
     version=$(sed -n 's/^Version: //p' "$to/lib/pkgconfig/ropebonnet.pc")
-    [ "$version" = 1.0.0 ] || die "ropebonnet.pc has version $version"
+    [ "$version" = 1.1.0 ] || die "ropebonnet.pc has version $version"
     "$to/bin/tgsi_run" examples/measure.bin examples/comma.words | diff <(printf 'ended 69\nOUT 0 25 0 0 0\nOUT 1 1 0 0 0\n') - ||
-        die "the installed program: other output"
+        die "tgsi_run, installed: other output"
+    "$to/bin/tgsi_list" examples/measure.bin | diff examples/measure.listing - || die "tgsi_list, installed: other output"
+    "$to/bin/tgsi_read" examples/measure.listing "$room/measure.bin" | diff <(echo 'wrote 440 bytes') - || die "tgsi_read, installed: other output"
+    cmp examples/measure.bin "$room/measure.bin" || die "tgsi_read, installed: another file"
     make -s uninstall "PREFIX=$to"
     [ -z "$(find "$to" ! -type d)" ] || die "make uninstall left something"
 }
@@ -125,8 +128,8 @@ installed() {
 staged() {
     local to="$room/a stage's" prefix
     make -s install PREFIX=/opt/ropebonnet "DESTDIR=$to"
-    (cd "$to" && find . ! -type d | sort) | diff <(printf './opt/ropebonnet/%s\n' bin/tgsi_run include/ropebonnet.h \
-        lib/libropebonnet.a lib/pkgconfig/ropebonnet.pc libexec/ropebonnet/tgsi_run) - || die "DESTDIR: other files"
+    (cd "$to" && find . ! -type d | sort) | diff <(printf './opt/ropebonnet/%s\n' bin/tgsi_{list,read,run} include/ropebonnet.h \
+        lib/libropebonnet.a lib/pkgconfig/ropebonnet.pc libexec/ropebonnet/tgsi_{list,read,run}) - || die "DESTDIR: other files"
     grep -qx 'prefix=/opt/ropebonnet' "$to/opt/ropebonnet/lib/pkgconfig/ropebonnet.pc" || die "DESTDIR: prefix"
     for prefix in relative "/it's" '/a b' '/a;b' '/a"b'; do
         ! make -s install "PREFIX=$prefix" "DESTDIR=$room/none" 2>"$room/said" || die "PREFIX=$prefix was taken"
@@ -145,7 +148,7 @@ not_installed() {
 # What was built before a source, a definition or the header was changed is not installed, nor is what was not built.
 stale() {
     local tree=$room/tree file changed
-    local built=(target/staticlib/libropebonnet.a target/bin/tgsi_run)
+    local built=(target/staticlib/libropebonnet.a target/bin/tgsi_{run,list,read})
     local of=(crates/a/src/lib.rt crates/a/src/inner/b.rt crates/a/specs/C.antt include/ropebonnet.h)
     for file in "${built[@]}" "${of[@]}"; do
         install -D -m 644 -- /dev/null "$tree/$file"
@@ -176,6 +179,8 @@ tries buffers -O2
 tries buffers "${sanitized[@]}"
 tries files -O2
 tries files "${sanitized[@]}"
+tries listings -O2
+tries listings "${sanitized[@]}"
 tries stack -O2 -Wl,-z,now
 tries threads -O2 -pthread
 freestanding

@@ -17,6 +17,8 @@ static uint32_t constants[ROPEBONNET_MOST_CONSTANTS];
 static uint32_t registers[ROPEBONNET_REGISTER_WORDS];
 static uint32_t work[ROPEBONNET_WORK_WORDS * INSTRUCTIONS];
 static uint32_t memory[16];
+static struct listing l;
+static uint8_t output[ROPEBONNET_LONGEST_LISTING];
 
 /* A program without jumps: a run carries out each instruction once. */
 static void build(void)
@@ -25,6 +27,7 @@ static void build(void)
     declare_all(&p);
     families(&p);
     byte(&p, END);
+    list(&l, &p);
 }
 
 /* The byte after the records that end within so many bytes of the program. */
@@ -57,6 +60,8 @@ static void expect_answers(const uint8_t *file, size_t length, struct ropebonnet
     struct ropebonnet_needs n = ropebonnet_needs(file, length);
     struct ropebonnet_answer first = {n.status, n.first, n.second};
     EXPECT_ANSWER(first, wanted, "needs of %zu bytes", length);
+    EXPECT_ANSWER(ropebonnet_print(file, length, output, sizeof output),
+                  wanted.status == ROPEBONNET_DONE ? done((uint32_t)l.length) : wanted, "print of %zu bytes", length);
 }
 
 static void expect_part(const uint8_t *file, size_t length, size_t n, size_t start, size_t part_length)

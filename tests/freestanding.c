@@ -27,13 +27,16 @@ static const uint8_t program[] = {
 int host(void)
 {
     static uint32_t registers[ROPEBONNET_REGISTER_WORDS], work[2 * ROPEBONNET_WORK_WORDS];
+    static uint8_t listing[4 * sizeof program], file[sizeof program];
     struct ropebonnet_answer answer = ropebonnet_run(program, sizeof program, NULL, 0, NULL, 0, registers,
                                                      ROPEBONNET_REGISTER_WORDS, work, 6, NULL, 0, 2);
     if (answer.status != ROPEBONNET_DONE || ropebonnet_check(program, sizeof program).first != 2 ||
         ropebonnet_prepare(program, sizeof program, work, 6).first != 2 ||
         ropebonnet_needs(program, sizeof program).work_words != 6 ||
-        ropebonnet_record(program, sizeof program, 0).length != 6 || ropebonnet_version() != ROPEBONNET_VERSION ||
-        ropebonnet_row_words() != ROPEBONNET_WORK_WORDS) {
+        ropebonnet_record(program, sizeof program, 0).length != 6 ||
+        ropebonnet_print(program, sizeof program, listing, sizeof listing).first != 42 ||
+        ropebonnet_read(listing, 42, file, sizeof file).first != sizeof file ||
+        ropebonnet_version() != ROPEBONNET_VERSION || ropebonnet_row_words() != ROPEBONNET_WORK_WORDS) {
         return 1;
     }
     return (int)registers[ROPEBONNET_OUT(0)];

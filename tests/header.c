@@ -1,6 +1,6 @@
 /* The header by itself, as C89, as C11 and as C++: it includes what it uses, its structs are laid out as the library's,
- * its numbers are document 01's, and its functions have the library's types and link. The first line includes nothing
- * before it.
+ * its numbers are those of documents 01 and 02, and its functions have the library's types and link. The first line
+ * includes nothing before it.
  */
 #include "ropebonnet.h"
 
@@ -19,6 +19,7 @@ HOLDS(needs_outputs, offsetof(struct ropebonnet_needs, outputs) == 28);
 HOLDS(needs_memory, offsetof(struct ropebonnet_needs, memory) == 32);
 
 HOLDS(longest_file, ROPEBONNET_LONGEST_FILE == 65536);
+HOLDS(longest_listing, ROPEBONNET_LONGEST_LISTING == 4 * 65536);
 HOLDS(most_instructions, ROPEBONNET_MOST_INSTRUCTIONS == 1024);
 HOLDS(most_inputs, ROPEBONNET_MOST_INPUTS == 4 * 32);
 HOLDS(most_constants, ROPEBONNET_MOST_CONSTANTS == 4 * 1024);
@@ -39,6 +40,8 @@ static struct ropebonnet_answer (*const run)(const uint8_t *, size_t, const uint
                                              uint32_t) = ropebonnet_run;
 static struct ropebonnet_part (*const record)(const uint8_t *, size_t, size_t) = ropebonnet_record;
 static struct ropebonnet_needs (*const needs)(const uint8_t *, size_t) = ropebonnet_needs;
+static struct ropebonnet_answer (*const print)(const uint8_t *, size_t, uint8_t *, size_t) = ropebonnet_print;
+static struct ropebonnet_answer (*const read)(const uint8_t *, size_t, uint8_t *, size_t) = ropebonnet_read;
 static uint32_t (*const version)(void) = ropebonnet_version;
 static uint32_t (*const row_words)(void) = ropebonnet_row_words;
 
@@ -61,13 +64,16 @@ int main(void)
 {
     static uint32_t registers[ROPEBONNET_REGISTER_WORDS];
     uint32_t work[ROPEBONNET_WORK_WORDS * 2];
+    uint8_t listing[4 * sizeof program], file[sizeof program];
     struct ropebonnet_answer answer = check(program, sizeof program);
     struct ropebonnet_part part = record(program, sizeof program, 1);
     struct ropebonnet_needs n = needs(program, sizeof program);
     if (sum(&answer.status, &answer.first, &answer.second) != 2 || end(&part.start, &part.length) != 23 ||
         sum(&n.status, &n.first, &n.second) != 2 || sum(&n.instructions, &n.work_words, &n.input_words) != 8 ||
         sum(&n.constant_words, &n.outputs, &n.memory) != 1 ||
-        prepare(program, sizeof program, work, 6).first != 2 || version() != ROPEBONNET_VERSION ||
+        prepare(program, sizeof program, work, 6).first != 2 ||
+        print(program, sizeof program, listing, sizeof listing).first != 42 ||
+        read(listing, 42, file, sizeof file).first != sizeof file || version() != ROPEBONNET_VERSION ||
         row_words() != ROPEBONNET_WORK_WORDS) {
         return 1;
     }

@@ -14,6 +14,7 @@ static uint32_t constants[ROPEBONNET_MOST_CONSTANTS];
 static uint32_t registers[ROPEBONNET_REGISTER_WORDS + 1];
 static uint32_t work[ROPEBONNET_WORK_WORDS * ROPEBONNET_MOST_INSTRUCTIONS];
 static uint32_t memory[ROPEBONNET_MOST_MEMORY];
+static uint8_t output[100];
 static struct program p;
 
 /* Words that differ from each other and, by their first digit, from those of other buffers. */
@@ -153,6 +154,9 @@ static void statuses(void)
     EXPECT_ANSWER(ropebonnet_prepare(p.bytes, p.length, work, 7), done(2), "case 12: prepared");
     const uint32_t table[] = {23, 0, 0, 33, 0, 0, PAINT};
     EXPECT(memcmp(work, table, sizeof table) == 0, "case 12: the table");
+    EXPECT_ANSWER(ropebonnet_print(p.bytes, p.length, output, sizeof output), done(42), "case 12: printed");
+    EXPECT_ANSWER(ropebonnet_read(output, 42, output + 42, sizeof output - 42), done(34), "case 12: read back");
+    EXPECT(memcmp(output + 42, p.bytes, 34) == 0, "case 12: another file is read back");
 }
 
 /* "A budget is an unsigned 32-bit number." Case 12 ends in 2 steps; a loop without BRK takes all that there are. */

@@ -1,6 +1,9 @@
 #include "program.h"
 
+#include <inttypes.h>
+#include <stdio.h>
 #include <stdlib.h>
+#include <string.h>
 
 unsigned body(unsigned kind)
 {
@@ -129,4 +132,85 @@ void families(struct program *p)
     destination(p, STORE, MEM, 0, XYZW), from(p, CONST, 0, PLAIN), from(p, IN, 0, PLAIN);
     destination(p, ATOMUADD, OUT, 0, XYZW), from(p, CONST, 0, PLAIN), from(p, IN, 0, PLAIN);
     destination(p, ATOMCAS, OUT, 1, XYZW), from(p, CONST, 0, PLAIN), from(p, IN, 0, PLAIN), from(p, CONST, 2, PLAIN);
+}
+
+void largest(struct program *p)
+{
+    static const unsigned last[] = {0, 1023, 31, 31, 255, 0, 0, 0};
+    for (unsigned file = CONST; file <= MEM; file++) {
+        for (unsigned i = 0; file != IMM && i <= last[file]; i++) {
+            declare(p, file, i, i);
+        }
+    }
+    for (uint32_t i = 0; i < 256; i++) {
+        immediate(p, i, i, i, i);
+    }
+    for (unsigned i = 0; i < 1023; i++) {
+        destination(p, BFI, TEMP, i % 256, XYZW);
+        for (unsigned s = 0; s < 4; s++) {
+            source(p, CONST, i, TO_XYZW, BY_ADDR_X);
+        }
+    }
+    byte(p, END);
+}
+
+/* "declaration: file 1, first 2, last 2"; "immediate: four words"; "Destination: file 1, index 2, mask 1 ..";
+ * "Source: file 1, index 2, swizzle 1 .., modifier 1"
+ */
+const char *widths(unsigned kind)
+{
+    switch (body(kind)) {
+    case 5:
+        return kind == DECLARATION ? "122" : "1211";
+    case 9:
+        return "121" "1211";
+    case 14:
+        return "121" "1211" "1211";
+    case 16:
+        return "4444";
+    case 19:
+        return "121" "1211" "1211" "1211";
+    case 24:
+        return "121" "1211" "1211" "1211" "1211";
+    default:
+        return "";
+    }
+}
+
+void text(struct listing *l, const char *words)
+{
+    size_t length = strlen(words);
+    if (length > sizeof l->text - l->length) {
+        abort();
+    }
+    memcpy(l->text + l->length, words, length);
+    l->length += length;
+}
+
+static void number(struct listing *l, const uint8_t *bytes, unsigned width)
+{
+    char decimal[11];
+    uint32_t value = 0;
+    for (unsigned i = width; i-- > 0;) {
+        value = 256 * value + bytes[i];
+    }
+    snprintf(decimal, sizeof decimal, "%" PRIu32, value);
+    text(l, decimal);
+}
+
+size_t list(struct listing *l, const struct program *p)
+{
+    size_t at = 0;
+    l->length = 0;
+    while (at < p->length && body(p->bytes[at]) != UNKNOWN && body(p->bytes[at]) < p->length - at) {
+        const char *fields = widths(p->bytes[at]);
+        number(l, p->bytes + at++, 1);
+        for (; *fields != 0; fields++) {
+            text(l, " ");
+            number(l, p->bytes + at, (unsigned)(*fields - '0'));
+            at += (size_t)(*fields - '0');
+        }
+        text(l, "\n");
+    }
+    return at;
 }

@@ -1,4 +1,6 @@
-/* Program files put together record by record, by document 01's table of kinds, for the tests of the C interface. */
+/* Program files put together record by record, by document 01's table of kinds, and their listings, by document 02, for
+ * the tests of the C interface.
+ */
 #ifndef PROGRAM_H
 #define PROGRAM_H
 
@@ -73,5 +75,22 @@ void declare_all(struct program *p);
 /* Twelve instructions, one of each family, whose sources are read in every way, after declare_all. */
 void families(struct program *p);
 enum { FAMILIES = 12 };
+
+/* Document 01's limits together: 1,346 declarations, 256 immediates, 1,023 instructions of 25 bytes, END. */
+void largest(struct program *p);
+
+/* The bytes of each of a kind's fields, in file order, a digit each. */
+const char *widths(unsigned kind);
+
+/* Room for one line more than a file may have records. */
+struct listing {
+    uint8_t text[4 * (ROPEBONNET_LONGEST_FILE + 1)];
+    size_t length;
+};
+
+void text(struct listing *l, const char *words);
+
+/* The lines of a file's records: those before the first that is unknown or cut. Answers the bytes of these records. */
+size_t list(struct listing *l, const struct program *p);
 
 #endif

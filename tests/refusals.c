@@ -13,6 +13,7 @@ static uint32_t constants[ROPEBONNET_MOST_CONSTANTS];
 static uint32_t registers[ROPEBONNET_REGISTER_WORDS + GUARD];
 static uint32_t work[ROPEBONNET_WORK_WORDS * ROPEBONNET_MOST_INSTRUCTIONS + GUARD];
 static uint32_t memory[ROPEBONNET_MOST_MEMORY + GUARD];
+static uint32_t output[ROPEBONNET_LONGEST_LISTING / 4];
 
 struct sizes {
     size_t inputs, constants, registers, work, memory;
@@ -44,12 +45,13 @@ static void paint_all(void)
     paint(registers, sizeof registers / 4);
     paint(work, sizeof work / 4);
     paint(memory, sizeof memory / 4);
+    paint(output, sizeof output / 4);
 }
 
 static int all_painted(void)
 {
     return is_painted(registers, sizeof registers / 4) && is_painted(work, sizeof work / 4) &&
-           is_painted(memory, sizeof memory / 4);
+           is_painted(memory, sizeof memory / 4) && is_painted(output, sizeof output / 4);
 }
 
 static struct ropebonnet_answer run(const struct program *p, struct sizes s, uint32_t budget)
@@ -63,6 +65,18 @@ static struct ropebonnet_answer prepare(const struct program *p, size_t work_len
 {
     paint_all();
     return ropebonnet_prepare(p->bytes, p->length, work, work_length);
+}
+
+static struct ropebonnet_answer print(const struct program *p)
+{
+    paint_all();
+    return ropebonnet_print(p->bytes, p->length, (uint8_t *)output, sizeof output);
+}
+
+static struct ropebonnet_answer read(const struct listing *l)
+{
+    paint_all();
+    return ropebonnet_read(l->text, l->length, (uint8_t *)output, sizeof output);
 }
 
 /* A refusal of a file: how to make one that is just past the limit (past = 1) or just within it (past = 0), and what
@@ -247,9 +261,24 @@ static const struct refusal refusals[] = {
     {ROPEBONNET_NO_END, 13, "file ends without END", nop_and_end, DONE(2), 1},
 };
 
+/* What print answers of a file, and read of its listing, if it has one: "the read program's own". */
+static void answers_of_listings(const struct program *p, const char *words, struct ropebonnet_answer wanted)
+{
+    static struct listing l;
+    int accepted = wanted.status == ROPEBONNET_DONE;
+    size_t listed = list(&l, p);
+    EXPECT_ANSWER(print(p), accepted ? done((uint32_t)l.length) : wanted, "print: %s", words);
+    EXPECT(accepted || all_painted(), "print: %s: refused, and a lent word changed", words);
+    if (listed == p->length) {
+        EXPECT_ANSWER(read(&l), accepted ? done((uint32_t)p->length) : wanted, "read: %s", words);
+        EXPECT(accepted || all_painted(), "read: %s: refused, and a lent word changed", words);
+    }
+}
+
 /* What all calls but record answer of a file that is lent enough. */
 static void answers(const struct program *p, const char *words, struct ropebonnet_answer wanted)
 {
+    answers_of_listings(p, words, wanted);
     int accepted = wanted.status == ROPEBONNET_DONE;
     EXPECT_ANSWER(ropebonnet_check(p->bytes, p->length), wanted, "check: %s", words);
     EXPECT_ANSWER(prepare(p, most.work), wanted, "prepare: %s", words);

@@ -20,9 +20,11 @@ static uint32_t inputs[ROPEBONNET_MOST_INPUTS], constants[ROPEBONNET_MOST_CONSTA
 static uint32_t registers[ROPEBONNET_REGISTER_WORDS];
 static uint32_t work[ROPEBONNET_WORK_WORDS * ROPEBONNET_MOST_INSTRUCTIONS];
 static uint32_t memory[ROPEBONNET_MOST_MEMORY];
+static struct listing l;
+static uint8_t output[ROPEBONNET_LONGEST_LISTING];
 
-/* What is lent to a run besides a file: enough, or one word short of registers or of work. */
-static size_t register_words, work_words;
+/* What is lent besides a file or its listing: enough, or too little of registers, of work or of the output. */
+static size_t register_words, work_words, output_bytes;
 
 /* The caller's stack pointer. What the compiler pushes for a call after it was asked counts as taken by the call. */
 static uint8_t *pointer;
@@ -62,6 +64,18 @@ static void records(void)
     answer.first = (uint32_t)ropebonnet_record(p.bytes, p.length, 100).length;
 }
 
+static void prints(void)
+{
+    HERE();
+    answer = ropebonnet_print(p.bytes, p.length, output, output_bytes);
+}
+
+static void reads(void)
+{
+    HERE();
+    answer = ropebonnet_read(l.text, l.length, output, output_bytes);
+}
+
 struct figure {
     const char *name;
     void (*call)(void);
@@ -71,7 +85,8 @@ struct figure {
 static const struct figure figures[] = {
     {"check", checks, ROPEBONNET_CHECK_STACK},       {"needs", needs, ROPEBONNET_NEEDS_STACK},
     {"prepare", prepares, ROPEBONNET_PREPARE_STACK}, {"run", runs, ROPEBONNET_RUN_STACK},
-    {"record", records, ROPEBONNET_RECORD_STACK},
+    {"record", records, ROPEBONNET_RECORD_STACK},    {"print", prints, ROPEBONNET_PRINT_STACK},
+    {"read", reads, ROPEBONNET_READ_STACK},
 };
 
 /* Blocks that are as deep as can be, of one sort, around an instruction of every family. */
@@ -133,25 +148,15 @@ static void many_cases(void)
     byte(&p, END);
 }
 
-/* Document 01's limits together: 1,346 declarations, 256 immediates, 1,023 instructions of 25 bytes, END. */
-static void largest(void)
+static void most_digits(void)
 {
-    static const unsigned last[] = {0, 1023, 31, 31, 255, 0, 0, 0};
-    for (unsigned file = CONST; file <= MEM; file++) {
-        for (unsigned i = 0; file != IMM && i <= last[file]; i++) {
-            declare(&p, file, i, i);
-        }
-    }
-    for (uint32_t i = 0; i < 256; i++) {
-        immediate(&p, i, i, i, i);
-    }
-    for (unsigned i = 0; i < 1023; i++) {
-        destination(&p, BFI, TEMP, i % 256, XYZW);
-        for (unsigned s = 0; s < 4; s++) {
-            source(&p, CONST, i, TO_XYZW, BY_ADDR_X);
-        }
-    }
+    immediate(&p, UINT32_MAX, UINT32_MAX, UINT32_MAX, UINT32_MAX);
     byte(&p, END);
+}
+
+static void most_bytes(void)
+{
+    largest(&p);
 }
 
 static void longest_run(void)
@@ -177,7 +182,7 @@ static void too_many(void)
 
 static void without_end(void)
 {
-    largest();
+    largest(&p);
     p.length--;
 }
 
@@ -223,7 +228,8 @@ static const struct sort sorts[] = {
     {"16 SWITCHes", switches, 0},
     {"a SWITCH in 15 UIFs", switch_in_conditions, 0},
     {"996 CASEs", many_cases, 0},
-    {"the largest", largest, 0},
+    {"numbers of ten digits", most_digits, 0},
+    {"the largest", most_bytes, 0},
     {"the longest run", longest_run, 0},
     {"an empty file", empty, ROPEBONNET_NO_END},
     {"a file too long", too_long, ROPEBONNET_FILE_TOO_LONG},
@@ -266,10 +272,18 @@ static size_t taken_at_most(uint8_t *stack, void (*call)(void))
     return a > b ? a : b;
 }
 
-static void lend(size_t least_registers, size_t least_work)
+static void build(const struct sort *s)
+{
+    p.length = 0;
+    s->build();
+    list(&l, &p);
+}
+
+static void lend(size_t least_registers, size_t least_work, size_t least_output)
 {
     register_words = least_registers;
     work_words = least_work;
+    output_bytes = least_output;
 }
 
 static void expect_status(const struct sort *s, const struct figure *f)
@@ -286,10 +300,9 @@ static size_t most_taken(uint8_t *stack, const struct figure *f)
 {
     size_t most = 0;
     for (size_t i = 0; i < sizeof sorts / sizeof sorts[0]; i++) {
-        p.length = 0;
-        sorts[i].build();
+        build(&sorts[i]);
         for (size_t less = 0; less < 3; less++) {
-            lend(sizeof registers / 4 - (less == 1), less == 2 ? 2 : sizeof work / 4);
+            lend(sizeof registers / 4 - (less == 1), less == 2 ? 2 : sizeof work / 4, less == 1 ? 0 : sizeof output);
             size_t bytes = taken_at_most(stack, f->call);
             most = bytes > most ? bytes : most;
             if (less == 0) {
@@ -320,9 +333,8 @@ static void just_enough(uint8_t *stack, const struct figure *f)
     on_stack(stack + ROOM, f->call);
     size_t frame = (size_t)(stack + ROOM - pointer) / 16 * 16;
     for (size_t i = 0; i < sizeof sorts / sizeof sorts[0]; i++) {
-        p.length = 0;
-        sorts[i].build();
-        lend(sizeof registers / 4, sizeof work / 4);
+        build(&sorts[i]);
+        lend(sizeof registers / 4, sizeof work / 4, sizeof output);
         on_stack(stack + PAGE + f->bytes + frame, f->call);
         EXPECT(pointer <= stack + PAGE + f->bytes && pointer >= stack + PAGE + f->bytes - 8,
                "%s: the stack is not of its bytes", f->name);

@@ -1,6 +1,6 @@
-/* Calls at once: eight threads, each with a program and words of its own, and a signal handler that runs a program while
- * a run is under way. Each run has the result that document 01 gives it alone. The threads' stacks are as small as the
- * header allows.
+/* Calls at once: eight threads, each with a program and words of its own, and a signal handler that runs a program
+ * while a run is under way. Each run has the result that document 01 gives it alone, and each program's listing is
+ * printed and read back. The threads' stacks are as small as the header allows.
  */
 #define _DEFAULT_SOURCE
 #include "expect.h"
@@ -24,6 +24,8 @@ struct host {
     uint32_t work[ROPEBONNET_WORK_WORDS * 20];
     uint32_t memory[4 * (TURNS + THREADS)];
     uint32_t wanted[4 * (TURNS + THREADS)];
+    struct listing listing;
+    uint8_t printed[1024], file[1024];
     unsigned wrong;
 };
 
@@ -69,6 +71,19 @@ static void make(struct host *h, uint32_t number)
         h->wanted[i] = word[i % 4];
     }
     build(h);
+    list(&h->listing, &h->program);
+}
+
+static void print_and_read(struct host *h)
+{
+    size_t length = h->listing.length;
+    memset(h->printed, 0x33, sizeof h->printed);
+    memset(h->file, 0x44, sizeof h->file);
+    if (ropebonnet_print(h->program.bytes, h->program.length, h->printed, sizeof h->printed).first != length ||
+        ropebonnet_read(h->printed, length, h->file, sizeof h->file).first != h->program.length ||
+        memcmp(h->printed, h->listing.text, length) != 0 || memcmp(h->file, h->program.bytes, h->program.length) != 0) {
+        h->wrong++;
+    }
 }
 
 /* Steps: BGNLOOP; seven a turn, since a UIF that is false goes after ENDIF and the last turn has BRK for ENDLOOP; MOV
@@ -87,6 +102,7 @@ static void run(struct host *h)
         memcmp(h->registers + ROPEBONNET_OUT(0), h->wanted + words - 4, 16) != 0) {
         h->wrong++;
     }
+    print_and_read(h);
 }
 
 static struct host hosts[THREADS];
@@ -107,7 +123,7 @@ static void threads(void)
     pthread_attr_t attributes;
     pthread_attr_init(&attributes);
     pthread_barrier_init(&start, NULL, THREADS);
-    if (pthread_attr_setstacksize(&attributes, ROPEBONNET_RUN_STACK + (size_t)PTHREAD_STACK_MIN) != 0) {
+    if (pthread_attr_setstacksize(&attributes, ROPEBONNET_READ_STACK + (size_t)PTHREAD_STACK_MIN) != 0) {
         abort();
     }
     for (uint32_t i = 0; i < THREADS; i++) {

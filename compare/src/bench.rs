@@ -1,11 +1,12 @@
-//! The benchmark: steps per second of the library and of a plain interpreter, the time of a smallest run, and those of check and
-//! prepare.
+//! The benchmark: steps per second of the library and of a plain interpreter, the time of a smallest run, and those of check, prepare,
+//! print and read.
 
 use crate::format::*;
 use crate::kinds::*;
 use crate::machine::REGISTER_WORDS;
+use crate::printout::listing;
 use crate::run::MOST_MEMORY;
-use crate::runner::{Answer, Lent, Runner};
+use crate::runner::{Answer, Lent, Runner, DONE};
 use crate::write::{self, from_hex};
 use std::time::Instant;
 
@@ -105,11 +106,31 @@ pub fn bench(product: Option<&dyn Runner>, second: &dyn Runner, plain: &dyn Runn
             println!("  {:18} check {check:8.1} us, prepare {prepare:8.1} us: {answer:?}", runner.name());
         }
     }
+    for (name, file) in [(LONGEST_LISTING, longest_listing()), ("listing of 65,536 marks", vec![NOP; LONGEST_FILE])] {
+        let text = Vec::from(listing(&file));
+        println!("{name}: {} bytes of {}", text.len(), file.len());
+        for runner in product.into_iter().chain([second]) {
+            let (mut printed, mut copied) = (vec![0; text.len()], vec![0; file.len()]);
+            let (mut print, mut read) = (Answer::done(0), Answer::done(0));
+            let print_time = least_time(|| print = runner.print(&file, &mut printed)) * 1e6;
+            let read_time = least_time(|| read = runner.read(&text, &mut copied)) * 1e6;
+            println!("  {:18} print {print_time:8.1} us: {print:?}, read {read_time:8.1} us: {read:?}", runner.name());
+            same &= name != LONGEST_LISTING || is_quick(print, print_time) && is_quick(read, read_time);
+        }
+    }
     same
 }
 
-/// Every register of every file by a declaration of its own, and 256 immediates, all words different.
-fn largest_head() -> Vec<u8> {
+/// The listing that is measured against the clock: no accepted file has a longer one.
+const LONGEST_LISTING: &str = "longest listing";
+
+/// Whether a call was done, and within two milliseconds.
+fn is_quick(answer: Answer, microseconds: f64) -> bool {
+    answer.status == DONE && microseconds <= 2000.0
+}
+
+/// Every register of every file by a declaration of its own, and 256 immediates of words that count up from one.
+fn largest_head(first_word: u32) -> Vec<u8> {
     let mut bytes = vec![];
     for file in [CONST, IN, OUT, TEMP, ADDR, MEM] {
         for register in 0..file_size(file) as u16 {
@@ -117,7 +138,7 @@ fn largest_head() -> Vec<u8> {
         }
     }
     for i in 0..256 {
-        bytes.extend(write::immediate([4 * i, 4 * i + 1, 4 * i + 2, 4 * i + 3]));
+        bytes.extend(write::immediate([0, 1, 2, 3].map(|component| first_word + 4 * i + component)));
     }
     bytes
 }
@@ -128,7 +149,7 @@ fn filled(first: Vec<Vec<u8>>, last: Vec<Vec<u8>>) -> Vec<u8> {
     let longest = write::instruction(BFI, write::destination(TEMP, 255, 15), &[source; 4]);
     let missing = 1023 - first.len() - last.len();
     let fill = vec![longest; missing];
-    [largest_head(), first.concat(), fill.concat(), last.concat(), write::mark(END)].concat()
+    [largest_head(0), first.concat(), fill.concat(), last.concat(), write::mark(END)].concat()
 }
 
 /// A SWITCH with so many CASE labels, each of another value.
@@ -155,4 +176,11 @@ fn largest_files() -> Vec<(&'static str, Vec<u8>)> {
         ("SWITCH with 1,021 CASE labels", filled(switch(1021), end())),
         ("990 BRK in 16 loops", filled(jumps, vec![write::mark(ENDLOOP); 16])),
     ]
+}
+
+/// The accepted file with the longest listing: as many records and fields as there can be, with as many digits as they can have.
+pub fn longest_listing() -> Vec<u8> {
+    let source = write::source(TEMP, 65_535, 255, 8);
+    let longest = write::instruction(BFI, write::destination(TEMP, 255, 15), &[source; 4]);
+    [largest_head(u32::MAX - 1023), longest.repeat(1023), write::mark(END)].concat()
 }

@@ -1,4 +1,4 @@
-//! One case of the comparison: a file, the words lent with it, a budget and records to ask for.
+//! One case of the comparison: a file, the words lent with it, a budget, records to ask for, and what is printed and read.
 
 use crate::blocks;
 use crate::check::{check, Program};
@@ -7,8 +7,12 @@ use crate::format::{CONST, IN, LONGEST_FILE};
 use crate::generate::Draft;
 use crate::kinds::BGNLOOP;
 use crate::machine::REGISTER_WORDS;
+use crate::paper::Paper;
 use crate::random::Random;
 use crate::run::MOST_MEMORY;
+
+/// Of so many cases one is printed and read.
+const PAPER_SHARE: u64 = 8;
 
 pub struct Case {
     pub file: Vec<u8>,
@@ -20,6 +24,7 @@ pub struct Case {
     pub budget: u32,
     /// The numbers of the records to ask for.
     pub records: Vec<usize>,
+    pub paper: Option<Paper>,
 }
 
 impl Case {
@@ -47,6 +52,7 @@ impl Case {
             memory: if memory < 100 { random.words(memory) } else { filler(random, memory) },
             budget: budget(random, program.as_ref()),
             records: record_numbers(random),
+            paper: number.is_multiple_of(PAPER_SHARE).then(|| Paper::new(random, &file)),
             file,
         }
     }

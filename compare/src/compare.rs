@@ -2,41 +2,17 @@
 
 use crate::case::Case;
 use crate::format::Part;
-use crate::kinds;
-use crate::runner::{Answer, Lent, Needs, Runner, REFUSED};
+use crate::guarded::{item_difference, Guarded, GUARD_BYTE, GUARD_WORD};
+use crate::pages::{self, page_difference, pages, Pages};
+use crate::paper::Paper;
+use crate::runner::{Answer, Lent, Needs, Runner};
 use crate::write::hex;
-
-/// Words on either side of a lent buffer, which no call may change.
-const GUARD_LENGTH: usize = 8;
-const GUARD_BYTE: u8 = 0xC5;
-const GUARD_WORD: u32 = 0xC5C5_C5C5;
-
-/// A buffer between guards.
-#[derive(Clone, PartialEq)]
-struct Guarded<T>(Vec<T>);
-
-impl<T: Copy> Guarded<T> {
-    fn new(content: &[T], guard: T) -> Guarded<T> {
-        let mut all = vec![guard; GUARD_LENGTH];
-        all.extend_from_slice(content);
-        all.extend([guard; GUARD_LENGTH]);
-        Guarded(all)
-    }
-
-    fn inner(&self) -> &[T] {
-        &self.0[GUARD_LENGTH..self.0.len() - GUARD_LENGTH]
-    }
-
-    fn inner_mut(&mut self) -> &mut [T] {
-        let end = self.0.len() - GUARD_LENGTH;
-        &mut self.0[GUARD_LENGTH..end]
-    }
-}
+use std::fmt;
 
 /// Everything a runner answers and leaves behind.
 #[derive(PartialEq)]
 pub struct Outcome {
-    check: Answer,
+    pub check: Answer,
     prepare: Answer,
     pub run: Answer,
     records: Vec<Part>,
@@ -45,6 +21,7 @@ pub struct Outcome {
     prepared: Guarded<u32>,
     /// Inputs, constants, registers, work and memory after the run.
     words: [Guarded<u32>; 5],
+    pub pages: Option<Pages>,
 }
 
 const WORDS: [&str; 5] = ["inputs", "constants", "registers", "work", "memory"];
@@ -68,7 +45,8 @@ pub fn outcome(runner: &dyn Runner, case: &Case) -> Outcome {
     let run = runner.run(file.inner(), lent, case.budget);
     let records = case.records.iter().map(|&n| runner.record(file.inner(), n)).collect();
     let needs = runner.needs(file.inner());
-    Outcome { check, prepare, run, records, needs, file, prepared, words }
+    let pages = case.paper.as_ref().map(|paper| pages(runner, file.inner(), paper));
+    Outcome { check, prepare, run, records, needs, file, prepared, words, pages }
 }
 
 /// The first difference of two outcomes, in words.
@@ -93,14 +71,13 @@ pub fn difference(a: &Outcome, b: &Outcome) -> Option<String> {
     }
     let mut buffers = vec![("prepared work", &a.prepared, &b.prepared)];
     buffers.extend((0..5).map(|i| (WORDS[i], &a.words[i], &b.words[i])));
-    buffers.iter().find_map(|(name, a, b)| word_difference(name, a, b))
+    let of_words = buffers.iter().find_map(|(name, a, b)| item_difference(name, a, b));
+    of_words.or_else(|| a.pages.as_ref().zip(b.pages.as_ref()).and_then(|(a, b)| page_difference(a, b)))
 }
 
-/// Places below 0 and from the length on are those of guards.
-fn word_difference(name: &str, a: &Guarded<u32>, b: &Guarded<u32>) -> Option<String> {
-    let at = (0..a.0.len()).find(|&i| a.0[i] != b.0[i])?;
-    let place = at as i64 - GUARD_LENGTH as i64;
-    Some(format!("{name}, word {place} of {}: {:08X} and {:08X}", a.inner().len(), a.0[at], b.0[at]))
+/// What an outcome shows by itself to be wrong.
+pub fn broken_law(case: &Case, outcome: &Outcome) -> Option<String> {
+    pages::broken_law(outcome.pages.as_ref()?, &case.file, case.paper.as_ref()?)
 }
 
 /// All of a case, so that it can be given again by hand.
@@ -111,44 +88,19 @@ pub fn dump(case: &Case) -> String {
     for (name, content) in WORDS.iter().zip(lent) {
         text += &format!("{name} ({} words){}\n", content.len(), words(content));
     }
-    text + &format!("budget {}\nrecords {:?}\n", case.budget, case.records)
-}
-
-/// How often each refusal was given and each answer's status met.
-#[derive(Default)]
-pub struct Counts {
-    pub statuses: [u64; 3],
-    pub refusals: [u64; 25],
-}
-
-/// The refusal numbers there are.
-pub fn refusal_numbers() -> impl Iterator<Item = usize> {
-    (1..=13).chain(20..=24)
-}
-
-impl Counts {
-    pub fn add(&mut self, run: &Answer) {
-        self.statuses[run.status as usize] += 1;
-        if run.status == REFUSED {
-            self.refusals[run.first as usize] += 1;
-        }
+    text += &format!("budget {}\nrecords {:?}\n", case.budget, case.records);
+    if let Some(Paper { text: listing, misprint, outputs: [printed, read] }) = &case.paper {
+        text += &format!("text ({} bytes) {}\nmisprint {misprint:?}\n", listing.len(), listing.escape_ascii());
+        text += &format!("printed ({} bytes) {}\n", printed.len(), hex(printed));
+        text += &format!("read ({} bytes) {}\n", read.len(), hex(read));
     }
+    text
+}
 
-    /// Prints all counts; true if none is 0.
-    pub fn print(&self, carried_out: &[u64; 256]) -> bool {
-        println!("ended {}, halted {}, refused {}", self.statuses[0], self.statuses[1], self.statuses[2]);
-        let mut complete = true;
-        println!("refusals:");
-        for number in refusal_numbers() {
-            println!("  {number:2} {:9}", self.refusals[number]);
-            complete &= self.refusals[number] > 0;
-        }
-        println!("instructions carried out:");
-        for row in kinds::ALL.chunks(4) {
-            let cells = row.iter().map(|kind| format!("  {:9} {:9}", kind.name, carried_out[kind.byte as usize]));
-            println!("{}", cells.collect::<String>().trim_end());
-        }
-        complete && kinds::ALL.iter().all(|kind| carried_out[kind.byte as usize] > 0)
+impl fmt::Display for Outcome {
+    fn fmt(&self, f: &mut fmt::Formatter) -> fmt::Result {
+        write!(f, "{:?}", self.run)?;
+        self.pages.iter().try_for_each(|pages| write!(f, ", print {:?}, read {:?}", pages.print, pages.read))
     }
 }
 

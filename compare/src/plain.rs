@@ -55,6 +55,14 @@ impl Runner for Plain {
     fn needs(&self, file: &[u8]) -> Needs {
         Second::new().needs(file)
     }
+
+    fn print(&self, file: &[u8], output: &mut [u8]) -> Answer {
+        Second::new().print(file, output)
+    }
+
+    fn read(&self, text: &[u8], output: &mut [u8]) -> Answer {
+        Second::new().read(text, output)
+    }
 }
 
 /// One bit for each register of CONST, then of TEMP.

@@ -23,6 +23,8 @@ extern "C" {
     ) -> Answer;
     fn ropebonnet_record(file: *const u8, file_length: usize, n: usize) -> Part;
     fn ropebonnet_needs(file: *const u8, file_length: usize) -> Needs;
+    fn ropebonnet_print(file: *const u8, file_length: usize, output: *mut u8, output_length: usize) -> Answer;
+    fn ropebonnet_read(text: *const u8, text_length: usize, output: *mut u8, output_length: usize) -> Answer;
 }
 
 pub struct Product;
@@ -67,5 +69,13 @@ impl Runner for Product {
 
     fn needs(&self, file: &[u8]) -> Needs {
         unsafe { ropebonnet_needs(file.as_ptr(), file.len()) }
+    }
+
+    fn print(&self, file: &[u8], output: &mut [u8]) -> Answer {
+        unsafe { ropebonnet_print(file.as_ptr(), file.len(), output.as_mut_ptr(), output.len()) }
+    }
+
+    fn read(&self, text: &[u8], output: &mut [u8]) -> Answer {
+        unsafe { ropebonnet_read(text.as_ptr(), text.len(), output.as_mut_ptr(), output.len()) }
     }
 }

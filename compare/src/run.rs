@@ -1,8 +1,9 @@
-//! The second interpreter's five calls, with the answers the C interface gives.
+//! The second interpreter's seven calls, with the answers the C interface gives.
 
 use crate::check::{check, Program, Refusal};
 use crate::format::{self, Part, CONST, IN, MEM, OUT};
 use crate::machine::{Machine, REGISTER_WORDS};
+use crate::printout;
 use crate::reading::{nest, Reading, Stop, SwitchBrk};
 use crate::runner::{Answer, Lent, Needs, Runner};
 use crate::table::rows;
@@ -37,8 +38,13 @@ const NOTHING: Needs = Needs {
     memory: 0,
 };
 
+/// A place past the last number of 32 bits, which only a listing can have, is given as that number.
 fn refused(refusal: Refusal) -> Answer {
-    Answer::refused(refusal.number, refusal.place as u32)
+    Answer::refused(refusal.number, u32::try_from(refusal.place).unwrap_or(u32::MAX))
+}
+
+fn written(result: Result<usize, Refusal>) -> Answer {
+    result.map_or_else(refused, |length| Answer::done(length as u32))
 }
 
 /// "working words under 3 per instruction"
@@ -117,12 +123,12 @@ impl Runner for Second {
 
     /// The least lengths that 20, 21 and 23 let pass, and of a refused file nothing.
     fn needs(&self, file: &[u8]) -> Needs {
-        let answer = self.check(file);
-        let Ok(Program { declared, instructions, .. }) = check(file) else {
-            return Needs { answer, ..NOTHING };
+        let Program { declared, instructions, .. } = match check(file) {
+            Ok(program) => program,
+            Err(refusal) => return Needs { answer: refused(refusal), ..NOTHING },
         };
         Needs {
-            answer,
+            answer: Answer::done(instructions.len() as u32),
             instructions: instructions.len() as u32,
             work_words: 3 * instructions.len() as u32,
             input_words: declared.words_needed(IN) as u32,
@@ -130,5 +136,27 @@ impl Runner for Second {
             outputs: (0..32).filter(|&i| declared.has(OUT, i)).map(|i| 1 << i).sum(),
             memory: declared.has_any(MEM) as u32,
         }
+    }
+
+    fn print(&self, file: &[u8], output: &mut [u8]) -> Answer {
+        written(printout::print(file, output))
+    }
+
+    fn read(&self, text: &[u8], output: &mut [u8]) -> Answer {
+        written(printout::read(text, output))
+    }
+}
+
+#[cfg(test)]
+mod tests {
+    use super::*;
+
+    #[test]
+    fn far_places() {
+        let place = |place| refused(Refusal { number: 30, place }).second;
+        assert_eq!(
+            [0, 0xFFFF_FFFE, 0xFFFF_FFFF, 1 << 32, usize::MAX].map(place),
+            [0, u32::MAX - 1, u32::MAX, u32::MAX, u32::MAX]
+        );
     }
 }

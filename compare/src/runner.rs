@@ -1,4 +1,4 @@
-//! What the library and the second interpreter have in common: the five calls of the C interface.
+//! What the library and the second interpreter have in common: the seven calls of the C interface.
 
 use crate::format::Part;
 
@@ -16,7 +16,7 @@ pub const HALTED: u32 = 1;
 pub const REFUSED: u32 = 2;
 
 impl Answer {
-    /// The number of instructions, or of a run its steps.
+    /// The number of instructions, of a run its steps, or of an output the bytes written.
     pub fn done(first: u32) -> Answer {
         Answer { status: DONE, first, second: 0 }
     }
@@ -59,4 +59,6 @@ pub trait Runner {
     fn run(&self, file: &[u8], lent: Lent, budget: u32) -> Answer;
     fn record(&self, file: &[u8], n: usize) -> Part;
     fn needs(&self, file: &[u8]) -> Needs;
+    fn print(&self, file: &[u8], output: &mut [u8]) -> Answer;
+    fn read(&self, text: &[u8], output: &mut [u8]) -> Answer;
 }

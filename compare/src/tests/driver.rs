@@ -1,9 +1,10 @@
 //! The comparison itself: the generator reaches everything, and wrong runners are found.
 
+use super::faulty_pages::{self, PageFault};
 use super::*;
 use crate::case::Case;
-use crate::compare::{difference, outcome, refusal_numbers, Counts};
-use crate::kinds;
+use crate::compare::{broken_law, difference, outcome};
+use crate::counts::Counts;
 use crate::plain::Plain;
 use crate::runner::{Needs, REFUSED};
 use crate::{control, vectors};
@@ -15,12 +16,13 @@ fn every_refusal_and_kind_occurs() {
     let second = Second::new();
     let mut counts = Counts::default();
     for number in 0..CASES {
-        counts.add(&outcome(&second, &Case::new(1, number)).run);
+        let case = Case::new(1, number);
+        let outcome = outcome(&second, &case);
+        assert_eq!(broken_law(&case, &outcome), None, "seed 1, case {number}");
+        counts.add(&case, &outcome);
     }
-    assert!(refusal_numbers().all(|number| counts.refusals[number] > 0), "{:?}", counts.refusals);
-    let carried_out = second.carried_out.borrow();
-    assert!(kinds::ALL.iter().all(|kind| carried_out[kind.byte as usize] > 0));
-    assert!(counts.statuses.iter().all(|&count| count > CASES / 10), "{:?}", counts.statuses);
+    assert!(counts.print(&second.carried_out.borrow()));
+    assert!(counts.run.statuses.iter().all(|&count| count > CASES / 10), "{:?}", counts.run.statuses);
 }
 
 #[test]
@@ -70,6 +72,7 @@ enum Fault {
     TableRowTooMany,
     RecordStart,
     NeedsOfAnotherFile,
+    Page(PageFault),
 }
 
 impl Runner for Faulty {
@@ -119,11 +122,25 @@ impl Runner for Faulty {
             _ => needs,
         }
     }
+
+    fn print(&self, file: &[u8], output: &mut [u8]) -> Answer {
+        match self.fault {
+            Fault::Page(fault) => faulty_pages::print(fault, file, output),
+            _ => self.second.print(file, output),
+        }
+    }
+
+    fn read(&self, text: &[u8], output: &mut [u8]) -> Answer {
+        match self.fault {
+            Fault::Page(fault) => faulty_pages::read(fault, text, output),
+            _ => self.second.read(text, output),
+        }
+    }
 }
 
 fn finds(fault: Fault) -> bool {
     let (faulty, second) = (Faulty { second: Second::new(), fault }, Second::new());
-    (0..300).any(|number| {
+    (0..CASES / 4).any(|number| {
         let case = Case::new(3, number);
         difference(&outcome(&faulty, &case), &outcome(&second, &case)).is_some()
     })
@@ -141,7 +158,7 @@ fn faults_are_found() {
         Fault::RecordStart,
         Fault::NeedsOfAnotherFile,
     ];
-    for fault in faults {
+    for fault in faults.into_iter().chain(faulty_pages::ALL.map(Fault::Page)) {
         assert!(finds(fault), "{fault:?}");
     }
 }

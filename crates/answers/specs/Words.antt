@@ -1,6 +1,6 @@
 -- What the C interface answers: the library's answers in words, by numbers of status.
 -- Assumes nothing.
-use Prim.Native.Nat.{ℕ}
+use Prim.Native.Nat.{ℕ, min}
 use mathlib.Core.Bool.{cond}
 use mathlib.Core.List.{List}
 use lib.Dec.{eqb}
@@ -9,6 +9,8 @@ use Rattle.checker.specs.Check.{Told, follows, breaks}
 use Rattle.preparation.specs.Preparing.{Preparation}
 use Rattle.runner.specs.Answers.{said, end, halt, unanswered, Lent, Result}
 use Rattle.runner.specs.Answers.{Answer as Library}
+use Rattle.text.specs.Output.{wrote, refusal, Written}
+use Rattle.text.specs.Output.{Answer as Output}
 use Rattle.answers.specs.declared.Answer.{Answer}
 use Rattle.answers.specs.declared.Part.{Part}
 
@@ -25,6 +27,15 @@ answerOf (said t) = toldWords t
 answerOf (end report) = words 0 (report .steps) 0
 answerOf (halt report next) = words 1 (report .steps) next
 answerOf unanswered = words 3 0 0
+
+-- A length or a place as a word: the greatest word stands for whatever is greater.
+abbrev pub inWord : ℕ → ℕ
+inWord n = min n 4294967295
+
+-- The first word of a call that writes to an output is how many bytes it wrote.
+abbrev pub filledWords : Output → Answer
+filledWords (wrote length) = words 0 (inWord length) 0
+filledWords (refusal number place) = words 2 number (inWord place)
 
 -- How many steps the answer to a run reports.
 abbrev pub stepsIn : Answer → ℕ
@@ -51,6 +62,17 @@ afterRun answer words = record { answer = answer; lent = words }
 
 abbrev pub resultInWords : Result → Ran
 resultInWords x = record { answer = answerOf (x .answer); lent = x .lent }
+
+-- What a host holds after a call that writes to an output: the answer in words, and the output's bytes.
+pub record Filled : Type 0 where
+  pub answer : Answer
+  pub output : List ℕ
+
+abbrev pub afterFilling : Answer → List ℕ → Filled
+afterFilling answer output = record { answer = answer; output = output }
+
+abbrev pub writtenInWords : Written → Filled
+writtenInWords x = afterFilling (filledWords (x .answer)) (x .output)
 
 -- A part of the file: where it starts, and how many bytes it has.
 abbrev pub partOf : Bounds → Part

@@ -3,15 +3,17 @@ use format::records::Bounds;
 use runner::Outcome;
 use runner::Prepared;
 use runner::Verdict;
+use text::output::Filled;
 ghost use mathlib.Core.Path.{_≡_};
 ghost use Rattle.checker.specs.Check.{told};
 ghost use Rattle.preparation.specs.Preparing.{prepareAnswer};
 ghost use Rattle.runner.specs.Answers.{runAnswer};
-ghost use Rattle.answers.specs.Words.{words, toldWords, answerOf, partOf};
+ghost use Rattle.text.specs.Output.{answered};
+ghost use Rattle.answers.specs.Words.{words, toldWords, answerOf, inWord, filledWords, partOf};
 
-// Status 0: done, with the number of instructions (check and prepare) or of steps (run) first. 1: halted, with the steps first
-// and the next instruction's number second. 2: refused, with the refusal's number first and its place second. Words that a
-// status does not use are 0.
+// Status 0: done, with the number of instructions (check and prepare), of steps (run) or of bytes written (print and read)
+// first. 1: halted, with the steps first and the next instruction's number second. 2: refused, with the refusal's number first
+// and its place second. Words that a status does not use are 0.
 #[repr(C)]
 pub struct Answer {
     pub status: u32,
@@ -84,6 +86,27 @@ pub fn ran(outcome: Outcome) -> Answer
             second: next,
         },
         Outcome::Refused(number, place) => refused(number, place),
+    }
+}
+
+// A length or a place as a word: what no word can hold is given as the greatest one.
+fn word(n: usize) -> u32
+    ensures { λ r. ⌜ r ≡ inWord n ⌝ }
+{
+    if n < u32::MAX as usize {
+        n as u32
+    } else {
+        u32::MAX
+    }
+}
+
+// What `print` or `read` answered.
+pub fn filled(outcome: Filled) -> Answer
+    ensures { λ r. ⌜ r ≡ filledWords (answered outcome) ⌝ }
+{
+    match outcome {
+        Filled::Wrote(length) => done(word(length)),
+        Filled::Refused(number, place) => refused(number, word(place)),
     }
 }
 

@@ -15,7 +15,7 @@ fn case(name: &[u8], n: usize, file: &[u8], lent: Lent) {
     report::text(name);
     report::next_number(n as u64);
     report::text(b": ");
-    report::outcome_line(lent::run(file, lent));
+    outcomes::outcome_line(lent::run(file, lent));
 }
 
 // The same of a file that fills the first bytes of a buffer, lent as many words as any program can ask for.

@@ -1,6 +1,7 @@
-// What the programs write: text, numbers and outcomes, on standard output. No contract can say what is written.
+// What the programs write on standard output: text, numbers and refusals. No contract can say what is written.
 use libc::STDOUT_FILENO;
-use runner::Outcome;
+
+mod meanings;
 
 pub fn text(bytes: &[u8])
     ensures { λ _. ⊤ₛ }
@@ -28,25 +29,28 @@ pub fn next_number(n: u64)
     number(n);
 }
 
-// `ended STEPS`, `halted STEPS NEXT` or `refused NUMBER PLACE`, and the line's end.
-pub fn outcome_line(outcome: Outcome)
+// `refused NUMBER PLACE`
+pub fn refusal_line(number: u8, place: u64)
     ensures { λ _. ⊤ₛ }
 {
-    match outcome {
-        Outcome::Ended(told) => {
-            text(b"ended");
-            next_number(told.steps as u64);
-        }
-        Outcome::Halted(told, next) => {
-            text(b"halted");
-            next_number(told.steps as u64);
-            next_number(next as u64);
-        }
-        Outcome::Refused(number, place) => {
-            text(b"refused");
-            next_number(number as u64);
-            next_number(place as u64);
-        }
-    }
+    text(b"refused");
+    next_number(number as u64);
+    next_number(place);
     line_end();
+}
+
+// What a refusal says.
+pub fn meaning_line(number: u8)
+    ensures { λ _. ⊤ₛ }
+{
+    meanings::refusal(number);
+    line_end();
+}
+
+// Both lines.
+pub fn refusal_lines(number: u8, place: u64)
+    ensures { λ _. ⊤ₛ }
+{
+    refusal_line(number, place);
+    meaning_line(number);
 }

@@ -10,8 +10,11 @@ use Rattle.runner.specs.Answers.{said, end, halt, unanswered, Lent, Result, aft
 use Rattle.runner.specs.Answers.{Answer as Library}
 use Rattle.runner.specs.Whole.{runOf}
 use Rattle.runner.proofs.Laws.{Answered, run-answers}
+use Rattle.text.specs.Output.{Written, written}
+use Rattle.text.specs.Output.{Answer as Output}
 use Rattle.answers.specs.declared.Answer.{Answer}
-use Rattle.answers.specs.Words.{toldWords, answerOf, stepsIn, afterPreparing, preparationInWords, afterRun, resultInWords}
+use Rattle.answers.specs.Words.{toldWords, answerOf, filledWords, stepsIn}
+use Rattle.answers.specs.Words.{afterPreparing, preparationInWords, afterRun, resultInWords, afterFilling, writtenInWords}
 
 -- After a call: what the callee answered is what its definition says.
 pub by-callee :
@@ -26,6 +29,11 @@ prepared-is a r work x h e = rw h (ap preparationInWords e)
 pub ran-is :
     (a : Library) (r : Answer) (words : Lent) (x : Result) → r ≡ answerOf a → after a words ≡ x → afterRun r words ≡ resultInWords x
 ran-is a r words x h e = rw h (ap resultInWords e)
+
+pub filled-is :
+    (a : Output) (r : Answer) (output : List ℕ) (x : Written) → r ≡ filledWords a → written a output ≡ x
+    → afterFilling r output ≡ writtenInWords x
+filled-is a r output x h e = rw h (ap writtenInWords e)
 
 within-words : (budget : ℕ) (a : Library) → Answered budget a → (answerOf a .status ≤ 2) × (stepsIn (answerOf a) ≤ budget)
 within-words budget (said (follows instructions)) h = absurd h

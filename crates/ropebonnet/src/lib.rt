@@ -3,6 +3,7 @@
 use answers::Answer;
 use answers::Part;
 use answers::checked;
+use answers::filled;
 use answers::located;
 use answers::prepared;
 use answers::ran;
@@ -18,10 +19,11 @@ ghost use Rattle.needs.specs.Needs.{needsOf};
 ghost use Rattle.preparation.specs.Preparing.{prepareOf};
 ghost use Rattle.runner.specs.Answers.{lent};
 ghost use Rattle.runner.specs.Whole.{runOf};
-ghost use Rattle.answers.specs.Words.{toldWords, stepsIn, afterPreparing, afterRun, preparationInWords, resultInWords, partOf};
+ghost use Rattle.listing.specs.Calls.{printOf, readOf};
+ghost use Rattle.answers.specs.Words.{toldWords, stepsIn, afterPreparing, afterRun, afterFilling, preparationInWords, resultInWords, writtenInWords, partOf};
 ghost use Rattle.ropebonnet.specs.Version.{version};
 
-const VERSION: u32 = 10000;
+const VERSION: u32 = 10100;
 
 // Whether a file follows the rules.
 #[no_mangle]
@@ -71,6 +73,22 @@ pub extern "C" fn ropebonnet_needs(file: &[u8]) -> Needs
     ensures { λ r. ⌜ r ≡ needsOf (now (file .entry)) ⌝ }
 {
     needs_of(file)
+}
+
+// Writes the listing of a program.
+#[no_mangle]
+pub extern "C" fn ropebonnet_print(file: &[u8], output: &mut [u8]) -> Answer
+    ensures { λ r. ⌜ afterFilling r (now (output .exit)) ≡ writtenInWords (printOf (now (file .entry)) (now (output .entry))) ⌝ }
+{
+    filled(listing::print(file, output))
+}
+
+// Writes the program file that a listing gives.
+#[no_mangle]
+pub extern "C" fn ropebonnet_read(text: &[u8], output: &mut [u8]) -> Answer
+    ensures { λ r. ⌜ afterFilling r (now (output .exit)) ≡ writtenInWords (readOf (now (text .entry)) (now (output .entry))) ⌝ }
+{
+    filled(listing::read(text, output))
 }
 
 // The library's version, which a host compares with its header's.

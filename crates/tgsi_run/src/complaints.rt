@@ -9,13 +9,6 @@ fn number(n: u64) {
     io::print_decimal(STDERR_FILENO, n);
 }
 
-// What is wrong with a file.
-pub fn fault_line(path: &[u8], fault: &[u8]) {
-    text(path);
-    text(fault);
-    text(b"\n");
-}
-
 // `inputs: 128 of 250000 words used`, where that is not all.
 pub fn unused_line(title: &[u8], used: u64, given: u64) {
     if used < given {

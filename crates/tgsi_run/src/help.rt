@@ -1,12 +1,5 @@
 // The help, on standard output where it is asked for, and on standard error where the arguments are wrong.
 
-// Whether the first argument asks for it.
-pub fn is_asked_for() -> bool {
-    let mut word = io::buffer();
-    let n = os::arg(1, &mut word);
-    check::same(&word[..n], b"--help") | check::same(&word[..n], b"-h")
-}
-
 fn usage(fd: i32) {
     io::write_all(
         fd,

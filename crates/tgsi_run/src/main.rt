@@ -5,25 +5,29 @@ use libc::STDOUT_FILENO;
 use runner::Outcome;
 
 mod complaints;
-mod files;
 mod help;
-mod meanings;
 mod outputs;
-mod reading;
 mod values;
+mod word_files;
 
 const BUDGET: u32 = 200000;
 
+fn halt_line(next: u32) {
+    report::text(b"the budget of 200,000 steps is spent before END; instruction");
+    report::next_number(next as u64);
+    report::text(b", counted from 0, comes next\n");
+}
+
 // The outcome, what a refusal or a halt means, and the outputs of a run.
 fn tell(outcome: Outcome, program: &[u8], registers: &[u32]) {
-    report::outcome_line(outcome);
+    outcomes::outcome_line(outcome);
     match outcome {
         Outcome::Ended(_) => outputs::lines(program, registers),
         Outcome::Halted(_, next) => {
-            meanings::halt_line(next);
+            halt_line(next);
             outputs::lines(program, registers);
         }
-        Outcome::Refused(number, _) => meanings::refusal_line(number),
+        Outcome::Refused(number, _) => report::meaning_line(number),
     }
 }
 
@@ -46,12 +50,12 @@ fn run(program: &[u8], inputs: &[u32], constants: &[u32]) {
 // Reads the inputs and the constants, and runs.
 fn run_with_words(program: &[u8]) {
     let mut inputs = [0u32; 128];
-    let i = files::read_words(2, b"inputs", &mut inputs);
+    let i = word_files::read_words(2, b"inputs", &mut inputs);
     if !i.whole {
         return;
     }
     let mut constants = [0u32; 4096];
-    let c = files::read_words(3, b"constants", &mut constants);
+    let c = word_files::read_words(3, b"constants", &mut constants);
     if !c.whole {
         return;
     }
@@ -76,7 +80,7 @@ fn run_named() {
 
 fn main() {
     let words = os::arg_count();
-    if help::is_asked_for() {
+    if files::is_help_asked_for() {
         help::write(STDOUT_FILENO);
     } else if (words < 2) | (4 < words) {
         help::write(STDERR_FILENO);

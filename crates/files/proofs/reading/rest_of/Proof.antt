@@ -3,8 +3,8 @@
 use Prim.Native.Nat.{_+_, _*_, _≤_}
 use native.Mathlib.Omega.{arith}
 use borrow.Author.Needs.{needs}
-use Rattle.tgsi_run.proofs.reading.rest_of.Statement.{statement}
-use Rattle.tgsi_run.proofs.reading.rest_of.Tie as tie
+use Rattle.files.proofs.reading.rest_of.Statement.{statement}
+use Rattle.files.proofs.reading.rest_of.Tie as tie
 
 abbrev Inv-loop : tie.InvT-loop
 Inv-loop fd path bytes₀ turns₀ bytes turns = bytes + turns * 65536 ≤ 9223372036854775808

@@ -1,17 +1,18 @@
-// The files that the arguments name.
-use crate::complaints;
-use crate::reading;
-use crate::reading::FAILED;
-use crate::reading::Read;
-use crate::values;
+// The words that a program is started with, and the files that they name. What is wrong is told on standard error. No contract can
+// say what is read or written.
+mod reading;
+
+use libc::STDERR_FILENO;
+pub use reading::FAILED;
+pub use reading::Read;
 ghost use Prim.Native.Nat.{_≤_};
 ghost use Rattle.io.specs.Counts.{Counts};
 
 // Bytes at the start of a buffer, and how many more the file has.
-struct Start {
-    whole: bool,
-    count: usize,
-    rest: u64,
+pub struct Start {
+    pub whole: bool,
+    pub count: usize,
+    pub rest: u64,
 }
 
 const NO_START: Start = Start {
@@ -20,8 +21,26 @@ const NO_START: Start = Start {
     rest: 0,
 };
 
+// Whether the first argument asks for help.
+pub fn is_help_asked_for() -> bool
+    ensures { λ _. ⊤ₛ }
+{
+    let mut word = io::buffer();
+    let n = os::arg(1, &mut word);
+    check::same(&word[..n], b"--help") | check::same(&word[..n], b"-h")
+}
+
+// A line with what is wrong with a file.
+pub fn fault_line(path: &[u8], fault: &[u8])
+    ensures { λ _. ⊤ₛ }
+{
+    io::write_all(STDERR_FILENO, path);
+    io::write_all(STDERR_FILENO, fault);
+    io::write_all(STDERR_FILENO, b"\n");
+}
+
 // Puts the name that an argument gives at the start of a buffer. One that does not fit is no name.
-fn name_of(argument: usize, title: &[u8], path: &mut [u8]) -> Read
+pub fn name_of(argument: usize, title: &[u8], path: &mut [u8]) -> Read
     ensures { λ r. ⌜ Counts (r .count) (now (path .exit)) ⌝ }
 {
     let count = os::arg(argument, path);
@@ -33,7 +52,7 @@ fn name_of(argument: usize, title: &[u8], path: &mut [u8]) -> Read
 }
 
 // Puts a file at the start of a buffer, as much of it as fits.
-fn read_named(path: &[u8], buffer: &mut [u8]) -> Read
+pub fn read_named(path: &[u8], buffer: &mut [u8]) -> Read
     ensures { λ r. ⌜ Counts (r .count) (now (buffer .exit)) ⌝ }
 {
     let fd = reading::open(path);
@@ -76,7 +95,7 @@ fn start_of(fd: i32, path: &[u8], buffer: &mut [u8]) -> Start
 }
 
 // The same of a file by its name.
-fn start_named(path: &[u8], buffer: &mut [u8]) -> Start
+pub fn start_named(path: &[u8], buffer: &mut [u8]) -> Start
     ensures within { λ r. ⌜ Counts (r .count) (now (buffer .exit)) ⌝ }
     ensures rest { λ r. ⌜ r .rest ≤ 9223372036854775808 ⌝ }
 {
@@ -87,43 +106,4 @@ fn start_named(path: &[u8], buffer: &mut [u8]) -> Start
     let start = start_of(fd, path, buffer);
     libc::close(fd);
     start
-}
-
-// Puts the words of a file at the start of `words`, as many as fit, and says where it has more.
-fn words_named(path: &[u8], title: &[u8], words: &mut [u32]) -> Read
-    ensures { λ r. ⌜ Counts (r .count) (now (words .exit)) ⌝ }
-{
-    let mut bytes = [0u8; 16384];
-    let start = start_named(path, &mut bytes);
-    if !start.whole {
-        return FAILED;
-    }
-    let n = start.count;
-    let total = n as u64 + start.rest;
-    if total % 4 != 0 {
-        complaints::fault_line(path, b": not a whole number of 32-bit words");
-        return FAILED;
-    }
-    let count = values::put_words(&bytes[..n], words);
-    complaints::unused_line(title, count as u64, total / 4);
-    Read { whole: true, count }
-}
-
-// The same of the file that an argument names; no words where there is no such argument.
-pub fn read_words(argument: usize, title: &[u8], words: &mut [u32]) -> Read
-    ensures { λ r. ⌜ Counts (r .count) (now (words .exit)) ⌝ }
-{
-    if os::arg_count() <= argument {
-        return Read {
-            whole: true,
-            count: 0,
-        };
-    }
-    let mut path = io::buffer();
-    let name = name_of(argument, title, &mut path);
-    if !name.whole {
-        return FAILED;
-    }
-    let n = name.count;
-    words_named(&path[..n], title, words)
 }

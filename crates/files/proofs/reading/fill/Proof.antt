@@ -6,8 +6,8 @@ use native.Mathlib.Omega.{arith}
 use borrow.Author.Needs.{needs}
 use lib.ListN.{length}
 use Rattle.io.proofs.Counting.{counts}
-use Rattle.tgsi_run.proofs.reading.fill.Statement.{statement}
-use Rattle.tgsi_run.proofs.reading.fill.Tie as tie
+use Rattle.files.proofs.reading.fill.Statement.{statement}
+use Rattle.files.proofs.reading.fill.Tie as tie
 
 abbrev Inv-loop : tie.InvT-loop
 Inv-loop fd path buffer₀ count₀ buffer count = (count ≤ length buffer) × (length buffer ≡ length buffer₀)
