@@ -94,6 +94,62 @@ malformed line, also an unknown kind or a number too large for its field" "$room
 awk 'BEGIN { for (i = 0; i < 65537; i++) print 128 }' | head -c 262144 >"$room/listing"
 stays 2 "refused 6 1024
 1,025th instruction or 257th immediate" "$room/listing"
+# Longer than the listing of any program file: the first malformed line is looked for all the same, in pieces of 262,145 bytes.
+# `long NUMBER PLACE WORDS`: what the listing is refused with.
+long() {
+    [ "$(wc -c <"$room/listing")" -gt 262144 ] || { echo "a listing that should be long is not"; exit 1; }
+    stays 2 "refused $1 $2
+$3" "$room/listing"
+}
+long_malformed() { long 30 "$1" "malformed line, also an unknown kind or a number too large for its field"; }
+long_file() { long 1 0 "file over 65,536 bytes"; }
+# `declarations COUNT`, a line of eight bytes each, so that line 32,768, counted from 0, is cut after its first byte.
+declarations() { awk -v n="$1" 'BEGIN { for (i = 0; i < n; i++) print "1 3 0 0" }'; }
+# `mixed COUNT`: lines of many lengths, no two after one another the same.
+mixed() {
+    awk -v n="$1" 'BEGIN {
+        for (i = 0; i < n; i++)
+            if (i % 3 == 0) print 1, i % 7 + 1, i % 65536, i * 7 % 65536
+            else if (i % 3 == 1) print 2, i * 65537 % 2147483647, i, i * i % 2147483647, 7
+            else print 112, 4, i % 65536, 15, 6, i % 251, 255, 0, 6, 1, 2, 0, 6, 3, i % 199, 0, 6, 5, 6, 8
+    }'
+}
+declarations 32769 >"$room/listing"
+long_file
+declarations 100000 >"$room/listing"
+long_file
+for line in 0 32767 32768 32769 65536 99999; do
+    declarations 100000 | awk -v n="$line" 'NR == n + 1 { print "1 3 00 "; next } { print }' >"$room/listing"
+    long_malformed $((8 * line))
+done
+{ declarations 100000; printf 137; } >"$room/listing"
+long_malformed 800000
+{ declarations 100000; printf '137\n'; } >"$room/listing"
+long_file
+# Over 6,500,000 bytes, 26 pieces: well formed, and with a leading zero in one line.
+mixed 200000 >"$room/mixed"
+cp "$room/mixed" "$room/listing"
+[ "$(wc -c <"$room/listing")" -gt 6500000 ] || { echo "the listing of many lines is short"; exit 1; }
+long_file
+for line in 5000 9000 20000 100000 150000 199999; do
+    awk -v n="$line" 'NR == n + 1 { print "0" $0; next } { print }' "$room/mixed" >"$room/listing"
+    long_malformed "$(head -n "$line" "$room/mixed" | wc -c)"
+done
+# A line of 300,000 digits, alone and after others; all zero bytes, and a listing without an end.
+{ head -c 300000 /dev/zero | tr '\0' 1; echo; } >"$room/listing"
+long_malformed 0
+{ mixed 20000; head -c 300000 /dev/zero | tr '\0' 1; echo; } >"$room/listing"
+long_malformed "$(mixed 20000 | wc -c)"
+head -c 262145 /dev/zero >"$room/listing"
+long_malformed 0
+stays 2 "refused 30 0
+malformed line, also an unknown kind or a number too large for its field" /dev/zero
+# Through a pipe that pauses five bytes into the second piece.
+slowly() { { head -c 262150 "$room/mixed"; sleep 0.1; tail -c +262151 "$room/mixed"; } | "$read" /dev/stdin "$room/none"; }
+gives 2 "" "refused 1 0
+file over 65,536 bytes" slowly
+[ ! -e "$room/none" ]
+
 gives 0 "refused 13 0
 file ends without END" "" ../target/bin/tgsi_read "$room/empty" "$room/none"
 
@@ -108,8 +164,6 @@ file over 65,536 bytes" "$list" "$room/long"
 stays 3 "no-such-file: No such file or directory" no-such-file
 stays 3 ".: Is a directory" .
 stays 3 "listing: File name too long" "$(printf '%5000s' x)"
-head -c 262145 /dev/zero >"$room/listing"
-stays 3 "$room/listing: over 262,144 bytes, more than the listing of any program file" "$room/listing"
 # A name is never taken for a result.
 stays 3 "wrote 1: No such file or directory" "wrote 1"
 gives 3 "" "137: No such file or directory" "$list" 137

@@ -9,9 +9,10 @@ use lib.Dec.{eqb, leb, ltb, eqb·suc-zero}
 use lib.ListN.{length, getD}
 use borrow.Author.Tests.{lt-ltb, le-ltb, leb-false, eq-eqb, ne-eqb, eqb-true, eqb-false, not-false}
 use Rattle.format.specs.Kinds.{lengthOf}
-use Rattle.format.specs.Records.{longest, wholeAt, sizeAt}
+use Rattle.format.specs.Records.{longest, sizeAt}
 use Rattle.format.specs.Fields.{caseWord}
 use Rattle.format.specs.Refusals.{tooLong, byteAfterEnd, unknownKind, bodyCut, tooMany, fieldRuleBroken, notDeclared, nestingBroken, noEnd}
+use Rattle.records.proofs.Walk.{sized-whole}
 use Rattle.blocks.specs.Control.{opOf}
 use Rattle.blocks.specs.Nesting.{Open, Ruling, goes, rule}
 use Rattle.blocks.specs.Nesting as nesting
@@ -141,11 +142,8 @@ module _ (m kind n at next end : ℕ) where
 
 -- The record of an END has no body.
 end-size : (file : List ℕ) (at : ℕ) → getD file at 0 ≡ 0x89 → (sizeAt file at ≡ 0 → ⊥) → sizeAt file at ≡ 1
-unfolding sizeAt lengthOf
-end-size file at e some = by (wholeAt file at) refl where
-  by : (b : Bool) → wholeAt file at ≡ b → sizeAt file at ≡ 1
-  by true q = rw (q, e)
-  by false q = absurd (some (rw q))
+unfolding lengthOf
+end-size file at e some = sized-whole file at some .size ∙ ap (λ (k : ℕ). 1 + lengthOf k) e
 
 module _ (s : Seen) (file : List ℕ) (at next m kind : ℕ) (t : State) (words values : List ℕ)
     (follows : next ≡ at + sizeAt file at)

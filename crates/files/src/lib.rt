@@ -5,6 +5,8 @@ mod reading;
 use libc::STDERR_FILENO;
 pub use reading::FAILED;
 pub use reading::Read;
+pub use reading::fill;
+pub use reading::open;
 ghost use Prim.Native.Nat.{_≤_};
 ghost use Rattle.io.specs.Counts.{Counts};
 
@@ -59,9 +61,9 @@ pub fn read_named(path: &[u8], buffer: &mut [u8]) -> Read
     if fd < 0 {
         return FAILED;
     }
-    let read = reading::fill(fd, path, buffer);
+    let file = reading::fill(fd, path, buffer);
     libc::close(fd);
-    read
+    file
 }
 
 // The same of the file that an argument names.

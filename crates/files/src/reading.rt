@@ -23,7 +23,9 @@ pub struct Rest {
 const TURNS: u64 = 140737488355328;
 
 // Opens a file, and answers a descriptor, or -1 after a line with the system's reason.
-pub fn open(path: &[u8]) -> i32 {
+pub fn open(path: &[u8]) -> i32
+    ensures { λ _. ⊤ₛ }
+{
     let fd = os::open_read(path);
     if fd < 0 {
         os::fail(path);

@@ -1,7 +1,7 @@
 // Kinds of records: how long the body of each is, and which operands it has.
 ghost use mathlib.Core.Path.{_≡_};
 ghost use lib.ListN.{getD};
-ghost use Rattle.format.specs.Kinds.{lengthOf, formOf, destinations, sources, firstSource, widths, declaration, immediate, instruction};
+ghost use Rattle.format.specs.Kinds.{lengthOf, isKnown, formOf, destinations, sources, firstSource, widths, declaration, immediate, instruction};
 
 // What the table holds for an unknown kind.
 pub const UNKNOWN: u8 = 255;
@@ -273,6 +273,23 @@ pub fn body_length(kind: u8) -> u8
     LENGTHS[kind as usize]
 }
 
+// Whether there is such a kind. It is asked of every line of a listing, where the table would be laid out anew each time.
+pub fn is_known(kind: u8) -> bool
+    ensures { λ r. ⌜ r ≡ isKnown kind ⌝ }
+{
+    match kind {
+        0x01..=0x02
+        | 0x10..=0x1e
+        | 0x20..=0x37
+        | 0x40..=0x52
+        | 0x56..=0x64
+        | 0x70
+        | 0x80..=0x89
+        | 0x90..=0x92 => true,
+        _ => false,
+    }
+}
+
 // How many destinations instructions of a kind have.
 pub fn destinations_of(kind: u8) -> u8
     ensures { λ r. ⌜ r ≡ destinations (formOf kind) ⌝ }
@@ -340,6 +357,9 @@ fn operand_width(destinations: u8, sources: u8, i: u8) -> u8
     }
     0
 }
+
+// As many fields as a record may have: BFI has 19.
+pub const MOST_FIELDS: u8 = 19;
 
 // How many bytes field i of a record of this kind has, counted from 0 after the kind; 0 past the last.
 pub fn field_width(kind: u8, i: u8) -> u8

@@ -1,5 +1,6 @@
 // The line of a record. Bytes are put where they lie within the output and counted in any case, so that an output of no bytes gives the
 // length.
+use format::kinds::MOST_FIELDS;
 use format::kinds::field_width;
 use text::numbers::put_decimal;
 use text::output::put;
@@ -25,9 +26,6 @@ fn put_field(n: u32, output: &mut [u8], at: usize) -> usize
     put(output, at, 0, SPACE);
     1 + put_decimal(n, output, at + 1)
 }
-
-// As many fields as a record may have: BFI has 19.
-const MOST_FIELDS: u8 = 19;
 
 // Puts the numbers of the fields of a record of this kind, which stand from a place on, each with a space before it.
 fn put_fields(kind: u8, file: &[u8], from: usize, output: &mut [u8], at: usize) -> usize

@@ -1,6 +1,6 @@
 -- The round trips of whole calls: what one call wrote, handed to the other, delivers what the first was given.
 -- Assumes nothing.
-use mathlib.Core.Path.{_≡_, refl, ap}
+use mathlib.Core.Path.{_≡_, refl, sym, ap, _∙_}
 use mathlib.Core.Bool.{Bool, true, false, cond}
 use mathlib.Core.List.{List}
 use Prim.Native.Nat.{ℕ}
@@ -12,7 +12,7 @@ use borrow.Author.Tests.{ltb-false}
 use Rattle.format.specs.Fields.{Bytes}
 use Rattle.checker.specs.Check.{Outcome, accepted, refused, checkOf}
 use Rattle.checker.specs.Findings.{Seen}
-use Rattle.text.specs.Output.{wrote, refusal, Written, written, outputShort, delivered}
+use Rattle.text.specs.Output.{Answer, wrote, refusal, Written, written, outputShort, delivered}
 use Rattle.listing.specs.Calls.{deliveredIf, printOf, readAs, readOf}
 use Rattle.listing.specs.Listing.{listingOf}
 use Rattle.listing.specs.Reading.{Reading, spelled, malformed, bytesOf}
@@ -49,13 +49,27 @@ delivered-by : (o : Outcome) (text output after : List ℕ) (n : ℕ) → delive
 delivered-by (refused number place) text output after n e = not-wrote number place n output after e
 delivered-by (accepted s) text output after n e = record { seen = s; ok = refl; back = delivered-back text output after n e }
 
--- The listing that was printed of a file is read as that file.
-pub printed-read : (file output after : List ℕ) (n : ℕ) → Bytes file → printOf file output ≡ written (wrote n) after
+-- What was printed and is read as the file, as the contract of `print` says of every lent file, delivers it.
+pub back-read : (file output after : List ℕ) (n : ℕ) → printOf file output ≡ written (wrote n) after → bytesOf (take n after) ≡ spelled file
     → (output2 : List ℕ) → readOf (take n after) output2 ≡ delivered file output2
 unfolding printOf readOf
-printed-read file output after n all e output2 =
-    let d : Delivered (checkOf file) (listingOf file) n after = delivered-by (checkOf file) (listingOf file) output after n e in
-    rw (d .back, listing-back file (d .seen) all (d .ok), d .ok)
+back-read file output after n e back output2 = rw (back, delivered-by (checkOf file) (listingOf file) output after n e .ok)
+
+-- The listing that was printed of a file is read as that file.
+module _ (file output after : List ℕ) (all : Bytes file) where
+  module _ (n : ℕ) (e : printOf file output ≡ written (wrote n) after) where
+    printed : Delivered (checkOf file) (listingOf file) n after
+    unfolding printOf
+    printed = delivered-by (checkOf file) (listingOf file) output after n e
+
+    read-back : bytesOf (take n after) ≡ spelled file
+    read-back = rw (printed .back) (listing-back file (printed .seen) all (printed .ok))
+
+    pub printed-read : (output2 : List ℕ) → readOf (take n after) output2 ≡ delivered file output2
+    printed-read output2 = back-read file output after n e read-back output2
+
+  pub printed-back : (a : Answer) → written a after ≡ printOf file output → (n : ℕ) → a ≡ wrote n → bytesOf (take n after) ≡ spelled file
+  printed-back a e n is = read-back n (sym e ∙ ap (λ (x : Answer). written x after) is)
 
 -- The file that was read from a listing is printed as that listing.
 pub read-printed : (text output after : List ℕ) (n : ℕ) → readOf text output ≡ written (wrote n) after

@@ -8,6 +8,7 @@ use lib.ListN.{length, replicate}
 use Rattle.format.specs.Fields.{word16, word32, numberAt, littleEndian, destinationAt, sourceAt, declarationAt, caseWord}
 use Rattle.format.specs.Kinds.{lengthOf}
 use Rattle.format.specs.Records.{sizeAt}
+use Rattle.format.proofs.Example.{file12}
 use Rattle.blocks.specs.Control.{opOf}
 use Rattle.registers.specs.Found.{sourceFound, operandsFound}
 use Rattle.registers.specs.Rules.{destinationRule, sourceRule, allOperands, declarationRule}
@@ -22,11 +23,6 @@ use Rattle.listing.specs.Listing.{linesFrom, listingOf}
 use Rattle.listing.specs.Reading.{Reading, spelled, malformed, readLines, bytesOf}
 use Rattle.spelling.specs.Spelling.{fieldBytes, kindIn, lineRecord, isLineOf}
 use Rattle.listing.proofs.Quoted.{quoted}
-
--- "`01 03 00 00 00 00`, `02 19` and fifteen `00`, `10 03 00 00 01 06 00 00 E4 00`, `89`: 34 bytes, accepted" (01, case 12)
-abbrev file12 : List ℕ
-file12 =
-    0x01 ∷ 3 ∷ 0 ∷ 0 ∷ 0 ∷ 0 ∷ 0x02 ∷ 0x19 ∷ replicate 15 0 ++ (0x10 ∷ 3 ∷ 0 ∷ 0 ∷ 1 ∷ 6 ∷ 0 ∷ 0 ∷ 0xE4 ∷ 0 ∷ 0x89 ∷ [])
 
 -- "The 34 bytes of document 01 give `1 3 0 0`, `2 25 0 0 0`, `16 3 0 1 6 0 228 0`, `137`." (02, W1)
 abbrev listing12 : List ℕ

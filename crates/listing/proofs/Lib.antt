@@ -11,3 +11,6 @@ pub mod RecordsIn
 pub mod RoundTrip
 pub mod ListingLength
 pub mod CallsBack
+pub mod Fronts
+pub mod Apart
+pub mod InPieces

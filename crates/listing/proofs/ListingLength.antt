@@ -13,11 +13,11 @@ use Rattle.format.specs.Fields.{numberAt, Bytes}
 use Rattle.format.specs.Kinds.{formOf, widths}
 use Rattle.format.specs.Records.{sizeAt}
 use Rattle.format.proofs.Widths.{sum, widths-sum, widths-known}
+use Rattle.records.proofs.Walk.{sized-whole}
 use Rattle.text.specs.Parts.{lineFeed, spaced}
 use Rattle.lines.specs.Lines.{numbersAt, recordLine}
 use Rattle.listing.specs.Listing.{linesFrom, listingOf}
 use Rattle.listing.proofs.FieldBytes.{spaced-few}
-use Rattle.listing.proofs.RecordsIn.{found}
 
 module _ (file : List ℕ) (all : Bytes file) where
   module _ (at : ℕ) (some : sizeAt file at ≡ 0 → ⊥) where
@@ -27,7 +27,7 @@ module _ (file : List ℕ) (all : Bytes file) where
     pub line-length : 1 + length (recordLine file at) ≤ 4 * sizeAt file at
     unfolding recordLine spaced numbersAt numberAt
     line-length =
-        let f = found file at some in
+        let f = sized-whole file at some in
         let s : sum fields ≡ _ = widths-sum (getD file at 0) (f .known) in
         omega (arith, spaced-few file all at (1 ∷ fields) (inl refl, widths-known (getD file at 0)) (omega arith))
 
@@ -41,7 +41,7 @@ module _ (file : List ℕ) (all : Bytes file) where
     by true e rest = omega arith
     by false e rest =
         let some = eqb-false (sizeAt file at) 0 e in
-        let f = found file at some .fits in
+        let f = sized-whole file at some .fits in
         let r = rest f in
         let l = line-length at some in
         simp length-append (omega arith)

@@ -1,20 +1,20 @@
 -- The records of a file: where the walk finds one there is a whole record, and an accepted file is whole records to its end.
 -- Assumes nothing.
 use mathlib.Core.Path.{_≡_, refl, sym, ap, _∙_}
-use mathlib.Core.Bool.{Bool, true, false, cond, _&&_}
+use mathlib.Core.Bool.{Bool, true, false, cond}
 use mathlib.Core.List.{List, [], _∷_}
-use Prim.Native.Nat.{ℕ, zero, suc, _+_, _-_, _<_, _≤_}
+use Prim.Native.Nat.{ℕ, zero, suc, _+_, _≤_}
 use native.Mathlib.Omega.{arith}
 use native.Mathlib.Nat.{add-zero}
-use lib.Dec.{ltb, leb, eqb}
+use lib.Dec.{ltb, eqb}
 use lib.ListN.{length, getD, take, drop, length-drop, take-append-drop, drop-of-length-le}
 use lib.Seq.{length-take-le, getD-take, getD-drop, drop-drop}
-use borrow.Author.Tests.{ltb-true, ltb-false, leb-true}
+use borrow.Author.Tests.{ltb-false}
 use Rattle.format.specs.Fields.{Bytes}
-use Rattle.format.specs.Kinds.{lengthOf}
 use Rattle.format.specs.Records.{longest, sizeAt}
 use Rattle.format.specs.Refusals.{tooLong, byteAfterEnd}
 use Rattle.format.proofs.Numbers.{bytes-take, bytes-drop}
+use Rattle.records.proofs.Walk.{Whole, sized-whole}
 use Rattle.checker.specs.Check.{accepted, refused, walk, checkOf}
 use Rattle.checker.specs.Findings.{Seen, nothing}
 use Rattle.checker.proofs.Walking.{taken-whole}
@@ -23,50 +23,30 @@ use Rattle.listing.proofs.WholeRecords.{Record, Records, fileOf}
 
 -- ---- The record at a place
 
-module _ (file : List ℕ) (at : ℕ) where
-  pub record Found : Type 0 where
-    pub known : lengthOf (getD file at 0) < 255
-    pub fits : at + sizeAt file at ≤ length file
-    pub size : sizeAt file at ≡ 1 + lengthOf (getD file at 0)
+module _ (file : List ℕ) (at : ℕ) (all : Bytes file) (some : sizeAt file at ≡ 0 → ⊥) where
+  here : Whole file at
+  here = sized-whole file at some
 
-  pub found : (sizeAt file at ≡ 0 → ⊥) → Found
-  unfolding sizeAt
-  found some =
-      by (ltb at (length file)) refl (ltb (lengthOf (getD file at 0)) 255) refl (leb (lengthOf (getD file at 0) + 1) (length file - at)) refl some where
-        by : (a : Bool) → ltb at (length file) ≡ a
-            → (b : Bool) → ltb (lengthOf (getD file at 0)) 255 ≡ b
-            → (c : Bool) → leb (lengthOf (getD file at 0) + 1) (length file - at) ≡ c
-            → (cond (a && b && c) (lengthOf (getD file at 0) + 1) 0 ≡ 0 → ⊥) → Found
-        by true p true q true r s =
-            let e : sizeAt file at ≡ lengthOf (getD file at 0) + 1 = rw (p, q, r) in
-            let h = ltb-true at (length file) p in
-            let f = leb-true (lengthOf (getD file at 0) + 1) (length file - at) r in
-            record { known = ltb-true (lengthOf (getD file at 0)) 255 q; fits = omega arith; size = omega arith }
-        by true p true q false r s = absurd (s refl)
-        by true p false q c r s = absurd (s refl)
-        by false p b q c r s = absurd (s refl)
+  abbrev part : List ℕ
+  part = take (sizeAt file at) (drop at file)
 
-  module _ (all : Bytes file) (some : sizeAt file at ≡ 0 → ⊥) where
-    abbrev part : List ℕ
-    part = take (sizeAt file at) (drop at file)
+  part-length : length part ≡ sizeAt file at
+  part-length = length-take-le (sizeAt file at) (drop at file) (rw (length-drop at file) (omega (arith, here .fits)))
 
-    part-length : length part ≡ sizeAt file at
-    part-length = length-take-le (sizeAt file at) (drop at file) (rw (length-drop at file) (omega (arith, found some .fits)))
+  part-kind : getD part 0 0 ≡ getD file at 0
+  part-kind =
+      getD-take (sizeAt file at) (drop at file) 0 0 (omega (arith, here .size))
+      ∙ getD-drop at file 0 0
+      ∙ ap (λ (p : ℕ). getD file p 0) (add-zero at)
 
-    part-kind : getD part 0 0 ≡ getD file at 0
-    part-kind =
-        getD-take (sizeAt file at) (drop at file) 0 0 (omega (arith, found some .size))
-        ∙ getD-drop at file 0 0
-        ∙ ap (λ (p : ℕ). getD file p 0) (add-zero at)
-
-    -- A whole record stands there.
-    record-at : Record part
-    record-at =
-        record {
-          bytes = bytes-take (sizeAt file at) (drop at file) (bytes-drop at file all);
-          known = rw part-kind (found some .known);
-          whole = rw part-kind (part-length ∙ found some .size);
-        }
+  -- A whole record stands there.
+  record-at : Record part
+  record-at =
+      record {
+        bytes = bytes-take (sizeAt file at) (drop at file) (bytes-drop at file all);
+        known = rw part-kind (here .known);
+        whole = rw part-kind (part-length ∙ here .size);
+      }
 
 -- ---- An accepted file
 
@@ -103,7 +83,7 @@ module _ (file : List ℕ) (all : Bytes file) where
     by-end true h r = not-accepted r
     by-end false h r =
         let l = ltb-false (at + 1) (length file) h in
-        let z = found file at some .size in
+        let z = sized-whole file at some .size in
         cut-more at some (cut-end (at + sizeAt file at) (omega arith))
 
     by : (b : Bool) → cond b (cond (ltb (at + 1) (length file)) (refused byteAfterEnd (at + 1)) (accepted after)) (walk n file (at + sizeAt file at) after) ≡ accepted f

@@ -21,13 +21,13 @@ use Rattle.listing.proofs.WellFormed.{record-line, record-is}
 -- ---- What is read
 
 -- A text that gives a file is the lines of whole records, and the file is these records.
-record Read (text file : List ℕ) : Type 0 where
-  records : List (List ℕ)
-  are : Records records
-  file-is : fileOf records ≡ file
-  text-is : linesOf records ≡ text
+pub record Read (text file : List ℕ) : Type 0 where
+  pub records : List (List ℕ)
+  pub are : Records records
+  pub file-is : fileOf records ≡ file
+  pub text-is : linesOf records ≡ text
 
-not-spelled : {A : Type 0} {at : ℕ} {file : List ℕ} → malformed at ≡ spelled file → A
+pub not-spelled : {A : Type 0} {at : ℕ} {file : List ℕ} → malformed at ≡ spelled file → A
 not-spelled e = let z : _≡_ {A = ℕ} 0 1 = cc in absurd (omega arith)
 
 module _ (l : List ℕ) (good : wellFormed l ≡ true) (text : List ℕ) where
@@ -54,7 +54,7 @@ read-by at (l ∷ m ∷ ls) file e = by (wellFormed l) refl e (λ f r. read-by (
   by false bad r rest = not-spelled r
 
 module _ (text file : List ℕ) (e : bytesOf text ≡ spelled file) where
-  read : Read text file
+  pub read : Read text file
   unfolding bytesOf
   read = rw (split-joined lineFeed text) at (read-by 0 (split lineFeed text) file e)
 

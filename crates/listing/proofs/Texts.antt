@@ -1,11 +1,11 @@
 -- Reading: the file so far and what the rest of the text gives make the whole, at every turn.
 -- Assumes nothing.
 use Rattle.text.proofs.Stores.{front}
-use Rattle.listing.proofs.WholeRecords.{read-line}
+use Rattle.listing.proofs.WholeRecords.{read-line, joined-none, joined-join}
 use Rattle.text.proofs.Lines.{split-some}
 use mathlib.Core.Path.{_≡_, refl, sym, ap, subst, _∙_}
 use mathlib.Core.Bool.{Bool, true, false, true≢false, cond}
-use mathlib.Core.List.{List, [], _++_, append-nil, append-assoc}
+use mathlib.Core.List.{List, [], _++_, append-nil}
 use Prim.Native.Nat.{ℕ, _+_, _-_, _^_, _≤_, _<_}
 use native.Mathlib.Omega.{arith}
 use borrow.Author.Tests.{ltb-true, ltb-false, lt-ltb, le-ltb}
@@ -65,14 +65,6 @@ pub record TextLeft (text array : List ℕ) (at count : ℕ) : Type 0 where
   pub holds : Holds done count array
   pub within : at ≤ length text
   pub room : length array ≡ longest
-
-joined-none : (r : Reading) → joined [] r ≡ r
-joined-none (spelled file) = refl
-joined-none (malformed at) = refl
-
-joined-join : (a b : List ℕ) (r : Reading) → joined a (joined b r) ≡ joined (a ++ b) r
-joined-join a b (spelled file) = rw (append-assoc a b file)
-joined-join a b (malformed at) = refl
 
 pub text-start : (text array : List ℕ) → length array ≡ longest → TextLeft text array 0 0
 unfolding bytesOf

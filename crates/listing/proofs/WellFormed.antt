@@ -17,7 +17,7 @@ use Rattle.text.proofs.Sameness.{same-equal}
 use Rattle.lines.specs.Lines.{recordLine}
 use Rattle.spelling.specs.Spelling.{numbersIn, fieldBytes, kindIn, lineRecord, isLineOf, wellFormed}
 use Rattle.listing.proofs.FieldBytes.{field-bytes}
-use Rattle.spelling.proofs.Records.{bytes-length}
+use Rattle.spelling.proofs.Records.{record-size}
 use Rattle.listing.proofs.WholeRecords.{Record, line-record, line-is}
 
 both : (a b : Bool) → (a && b) ≡ true → (a ≡ true) × (b ≡ true)
@@ -53,11 +53,11 @@ module _ (l : List ℕ) (good : wellFormed l ≡ true) where
       record {
         bytes = field-bytes (1 ∷ widths (formOf (kindIn l))) (numbersIn l);
         known = known;
-        whole = rw kind-byte (bytes-length (1 ∷ widths (formOf (kindIn l))) (numbersIn l) ∙ omega arith);
+        whole = rw kind-byte (record-size l ∙ omega arith);
       }
 
 -- A line is well formed exactly if it is the line of a whole record.
-pub well-formed : (l : List ℕ) → wellFormed l ≡ true → (r : List ℕ) × Record r × (recordLine r 0 ≡ l)
+well-formed : (l : List ℕ) → wellFormed l ≡ true → (r : List ℕ) × Record r × (recordLine r 0 ≡ l)
 well-formed l good = (lineRecord l, record-is l good, record-line l good)
 
 line-well-formed : (r : List ℕ) → Record r → wellFormed (recordLine r 0) ≡ true

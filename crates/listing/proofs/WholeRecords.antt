@@ -3,10 +3,10 @@
 use mathlib.Core.Path.{_≡_, refl, sym, ap, _∙_}
 use mathlib.Core.Logic.{inl}
 use mathlib.Core.Bool.{Bool, true, false, cond}
-use mathlib.Core.List.{List, [], _∷_, _++_}
+use mathlib.Core.List.{List, [], _∷_, _++_, append-nil, append-assoc}
 use Prim.Native.Nat.{ℕ, zero, suc, _+_, _-_, _≤_, _<_}
 use native.Mathlib.Omega.{arith}
-use native.Mathlib.Nat.{add-assoc, mod-eq-of-lt}
+use native.Mathlib.Nat.{add-assoc, add-zero, mod-eq-of-lt}
 use lib.Dec.{ltb}
 use lib.ListN.{length, getD, length-append, List·getD-append}
 use lib.Seq.{getD-append-add, take-length}
@@ -18,12 +18,13 @@ use Rattle.format.proofs.Widths.{sum, widths-sum, widths-known}
 use Rattle.format.proofs.Numbers.{bytes-none, bytes-append}
 use Rattle.records.proofs.Walk.{size-whole}
 use Rattle.text.specs.Parts.{lineFeed, line, split}
+use Rattle.text.proofs.Each.{Each}
 use Rattle.text.proofs.Lines.{Without, line-values, no-feed, split-ended, split-some}
 use Rattle.text.proofs.Sameness.{same-self}
 use Rattle.lines.specs.Lines.{numbersAt, recordLine}
 use Rattle.listing.specs.Listing.{linesFrom, listingOf}
 use Rattle.spelling.specs.Spelling.{numbersIn, kindIn, lineRecord, isLineOf, wellFormed}
-use Rattle.listing.specs.Reading.{spelled, malformed, joined, readLines, bytesOf}
+use Rattle.listing.specs.Reading.{Reading, spelled, malformed, joined, readLines, bytesOf}
 use Rattle.listing.proofs.FieldBytes.{numbers-after, numbers-before, fields-back}
 
 -- "A record is one byte of kind, then a body whose length the kind fixes." (01, The program file)
@@ -33,8 +34,7 @@ pub record Record (r : List ℕ) : Type 0 where
   pub whole : length r ≡ 1 + lengthOf (getD r 0 0)
 
 abbrev pub Records : List (List ℕ) → Type 0
-Records [] = Unit {0}
-Records (r ∷ rs) = Record r × Records rs
+Records rs = Each Record rs
 
 abbrev pub fileOf : List (List ℕ) → List ℕ
 fileOf [] = []
@@ -81,7 +81,7 @@ module _ (r rest : List ℕ) where
     kind-first : getD (r ++ rest) 0 0 ≡ getD r 0 0
     kind-first = List·getD-append r rest 0 0 (omega (arith, is .whole))
 
-    size-first : sizeAt (r ++ rest) 0 ≡ length r
+    pub size-first : sizeAt (r ++ rest) 0 ≡ length r
     size-first =
         let k = is .known in
         let w = is .whole in
@@ -157,23 +157,40 @@ unfolding readLines
 read-line at l [] some = absurd (some refl)
 read-line at l (m ∷ ls) some = refl
 
+pub joined-none : (x : Reading) → joined [] x ≡ x
+joined-none (spelled file) = refl
+joined-none (malformed at) = refl
+
+pub joined-join : (a b : List ℕ) (x : Reading) → joined a (joined b x) ≡ joined (a ++ b) x
+joined-join a b (spelled file) = rw (append-assoc a b file)
+joined-join a b (malformed at) = refl
+
 module _ (r : List ℕ) (is : Record r) where
-  read-record : (at : ℕ) (ps : List (List ℕ)) → (ps ≡ [] → ⊥) → (file : List ℕ) → readLines (at + length (recordLine r 0) + 1) ps ≡ spelled file
-      → readLines at (recordLine r 0 ∷ ps) ≡ spelled (r ++ file)
-  read-record at ps some file rest = read-line at (recordLine r 0) ps some ∙ rw (line-record r is, line-is r is, rest)
+  read-record : (at : ℕ) (ps : List (List ℕ)) → (ps ≡ [] → ⊥)
+      → readLines at (recordLine r 0 ∷ ps) ≡ joined r (readLines (at + length (recordLine r 0) + 1) ps)
+  read-record at ps some = read-line at (recordLine r 0) ps some ∙ rw (line-record r is, line-is r is)
 
   line-no-feed : Without lineFeed (recordLine r 0)
   unfolding recordLine
   line-no-feed = no-feed _ _
 
-read-from : (at : ℕ) (rs : List (List ℕ)) → Records rs → readLines at (split lineFeed (linesOf rs)) ≡ spelled (fileOf rs)
-unfolding readLines split
-read-from at [] are = refl
-read-from at (r ∷ rs) are =
-    rw (split-ended lineFeed (recordLine r 0) (linesOf rs) (line-no-feed r (are .0)))
-    (read-record r (are .0) at (split lineFeed (linesOf rs)) (split-some lineFeed (linesOf rs)) (fileOf rs)
-    (read-from (at + length (recordLine r 0) + 1) rs (are .1)))
+-- The records come before what the text after their lines gives.
+pub read-on : (at : ℕ) (rs : List (List ℕ)) (rest : List ℕ) → Records rs
+    → readLines at (split lineFeed (linesOf rs ++ rest)) ≡ joined (fileOf rs) (readLines (at + length (linesOf rs)) (split lineFeed rest))
+read-on at [] rest are = rw (add-zero at) (sym (joined-none (readLines at (split lineFeed rest))))
+read-on at (r ∷ rs) rest are =
+    let text : List ℕ = linesOf rs ++ rest in
+    let next : ℕ = at + length (recordLine r 0) + 1 in
+    let place : next + length (linesOf rs) ≡ at + length (linesOf (r ∷ rs)) = omega (arith, length-append (recordLine r 0) (lineFeed ∷ linesOf rs)) in
+    rw (
+      append-assoc (recordLine r 0) (lineFeed ∷ linesOf rs) rest,
+      split-ended lineFeed (recordLine r 0) text (line-no-feed r (are .0)),
+      read-record r (are .0) at (split lineFeed text) (split-some lineFeed text),
+      read-on next rs rest (are .1),
+      place,
+    )
+    (joined-join r (fileOf rs) (readLines (at + length (linesOf (r ∷ rs))) (split lineFeed rest)))
 
 pub reading-is : (rs : List (List ℕ)) → Records rs → bytesOf (linesOf rs) ≡ spelled (fileOf rs)
-unfolding bytesOf
-reading-is rs are = read-from 0 rs are
+unfolding bytesOf readLines split
+reading-is rs are = rw (append-nil (linesOf rs), append-nil (fileOf rs)) at (read-on 0 rs [] are)

@@ -2,6 +2,7 @@
 use checker::Verdict;
 use format::records::LONGEST;
 use format::refusals;
+use readers::all_bytes;
 use reading::Found;
 use text::output::Filled;
 use text::output::OUTPUT_SHORT;
@@ -9,19 +10,35 @@ use text::output::deliver;
 ghost use mathlib.Core.Path.{_≡_};
 ghost use mathlib.Core.List.{List};
 ghost use Prim.Native.Nat.{ℕ};
-ghost use lib.ListN.{length as size};
+ghost use lib.ListN.{take, length as size};
 ghost use Rattle.format.specs.Records.{longest};
 ghost use Rattle.checker.specs.Check.{checkOf};
-ghost use Rattle.text.specs.Output.{answered, written};
+ghost use Rattle.text.specs.Output.{answered, wrote, written};
 ghost use Rattle.listing.specs.Calls.{deliveredIf, printOf, readOf};
+ghost use Rattle.listing.specs.Reading.{spelled, bytesOf};
 ghost use Rattle.listing.specs.Inner.Found.{Holds};
 
+mod pieces;
 mod printing;
 mod reading;
 
-// Writes the listing of a program, or nothing where the program is refused or the output is too short. It is put twice: into no
-// byte, to learn its length, and then into the output.
+pub use pieces::Piece;
+pub use pieces::read_piece;
+
+// Writes the listing of a program, or nothing where the program is refused or the output is too short. "File to listing to file gives the
+// same bytes": what was written is read as the file. That holds of bytes; `all_bytes` is called for its contract, that a lent file has
+// nothing else.
 pub fn print(file: &[u8], output: &mut [u8]) -> Filled
+    ensures printed { λ r. ⌜ written (answered r) (now (output .exit)) ≡ printOf (now (file .entry)) (now (output .entry)) ⌝ }
+    ensures back { λ r. ⌜ ((n : ℕ) → answered r ≡ wrote n → bytesOf (take n (now (output .exit))) ≡ spelled (now (file .entry))) ⌝ }
+{
+    let filled = deliver_listing(file, output);
+    all_bytes(file);
+    filled
+}
+
+// The listing is put twice: into no byte, to learn its length, and then into the output.
+fn deliver_listing(file: &[u8], output: &mut [u8]) -> Filled
     ensures { λ r. ⌜ written (answered r) (now (output .exit)) ≡ printOf (now (file .entry)) (now (output .entry)) ⌝ }
 {
     if let Verdict::Refused(number, place) = checker::check(file) {

@@ -23,7 +23,8 @@ fn byte(b: u8) -> u8
     b
 }
 
-// Nothing: that what is lent as bytes has bytes only is the contract alone, for laws that ask for it. No program has to call it.
+// That what is lent as bytes has bytes only, for callers whose contract rests on it. It answers nothing: the loop is its proof, and an
+// optimised build drops it.
 pub fn all_bytes(bytes: &[u8])
     ensures { λ _. ⌜ Bytes (now (bytes .entry)) ⌝ }
 {

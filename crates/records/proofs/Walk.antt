@@ -10,7 +10,7 @@ use native.Mathlib.Numerals.{add-one}
 use native.Mathlib.Nat.{add-zero, add-suc, add-sub-cancel-left}
 use lib.Dec.{leb, ltb, eqb}
 use lib.ListN.{length, getD, take, drop}
-use borrow.Author.Tests.{leb-true, eq-eqb, ne-eqb, le-ltb, lt-ltb, le-leb, lt-leb}
+use borrow.Author.Tests.{ltb-true, leb-true, eqb-true, eqb-false, eq-eqb, ne-eqb, le-ltb, lt-ltb, le-leb, lt-leb}
 use Rattle.format.specs.Kinds.{lengthOf}
 use Rattle.format.specs.declared.records.Bounds.{Bounds}
 use Rattle.format.specs.Records.{longest, sizeAt, next, placeFrom, sizeOf, startOf, recordOf, boundsOf}
@@ -18,12 +18,6 @@ use Rattle.format.specs.Records.{longest, sizeAt, next, placeFrom, sizeOf, star
 and-false : (t : Bool) → t && false ≡ false
 and-false true = refl
 and-false false = refl
-
-chosen-fits : (a b c : Bool) (l at k : ℕ) → at ≤ l → (c ≡ true → at + k ≤ l) → at + cond (a && b && c) k 0 ≤ l
-chosen-fits true true true l at k h f = f refl
-chosen-fits true true false l at k h f = omega arith
-chosen-fits true false c l at k h f = omega arith
-chosen-fits false b c l at k h f = omega arith
 
 chosen-within : (t : Bool) (l k : ℕ) → k ≤ l → cond t l k ≤ l
 chosen-within true l k h = omega arith
@@ -49,16 +43,38 @@ module _ (file : List ℕ) where
   unfolding sizeAt
   size-past at h = rw (le-ltb at (length file) h)
 
-  -- A record lies within the file.
-  pub size-fits : (at : ℕ) → at ≤ length file → at + sizeAt file at ≤ length file
-  unfolding sizeAt
-  size-fits at h =
-      let k : ℕ = lengthOf (getD file at 0) in
-      chosen-fits (ltb at (length file)) (ltb (lengthOf (getD file at 0)) 255)
-      (leb (lengthOf (getD file at 0) + 1) (length file - at)) (length file) at (lengthOf (getD file at 0) + 1) h
-      (λ e. omega (arith, leb-true (lengthOf (getD file at 0) + 1) (length file - at) e))
+  -- A place with a size has a whole record: its kind is known, and it lies within the file.
+  module _ (at : ℕ) where
+    pub record Whole : Type 0 where
+      pub known : lengthOf (getD file at 0) < 255
+      pub fits : at + sizeAt file at ≤ length file
+      pub size : sizeAt file at ≡ 1 + lengthOf (getD file at 0)
 
-  -- A whole record's size goes by its kind.
+    pub sized-whole : (sizeAt file at ≡ 0 → ⊥) → Whole
+    unfolding sizeAt
+    sized-whole some =
+        by (ltb at (length file)) refl (ltb (lengthOf (getD file at 0)) 255) refl (leb (lengthOf (getD file at 0) + 1) (length file - at)) refl some where
+          by : (a : Bool) → ltb at (length file) ≡ a
+              → (b : Bool) → ltb (lengthOf (getD file at 0)) 255 ≡ b
+              → (c : Bool) → leb (lengthOf (getD file at 0) + 1) (length file - at) ≡ c
+              → (cond (a && b && c) (lengthOf (getD file at 0) + 1) 0 ≡ 0 → ⊥) → Whole
+          by true p true q true r s =
+              let e : sizeAt file at ≡ lengthOf (getD file at 0) + 1 = rw (p, q, r) in
+              let h = ltb-true at (length file) p in
+              let f = leb-true (lengthOf (getD file at 0) + 1) (length file - at) r in
+              record { known = ltb-true (lengthOf (getD file at 0)) 255 q; fits = omega arith; size = omega arith }
+          by true p true q false r s = absurd (s refl)
+          by true p false q c r s = absurd (s refl)
+          by false p b q c r s = absurd (s refl)
+
+  -- Past a record, or where there is none, the walk is within the file still.
+  pub size-fits : (at : ℕ) → at ≤ length file → at + sizeAt file at ≤ length file
+  size-fits at h = by (eqb (sizeAt file at) 0) refl where
+    by : (b : Bool) → eqb (sizeAt file at) 0 ≡ b → at + sizeAt file at ≤ length file
+    by true e = omega (arith, eqb-true (sizeAt file at) 0 e)
+    by false e = sized-whole at (eqb-false (sizeAt file at) 0 e) .fits
+
+  -- The same of a size that the code has found.
   pub size-fits-by : (at k : ℕ) → at ≤ length file → k ≡ sizeAt file at → at + k ≤ length file
   size-fits-by at k h e = omega (arith, size-fits at h)
 

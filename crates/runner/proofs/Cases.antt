@@ -8,6 +8,7 @@ use Rattle.words.specs.Word.{signed, word, lsb, umsb, imsb, least, greatest, ou
 use Rattle.format.specs.Kinds.{lengthOf}
 use Rattle.format.specs.Fields.{word16, word32, destinationAt, sourceAt, declarationAt, caseWord}
 use Rattle.format.specs.Records.{sizeAt, next, placeFrom}
+use Rattle.format.proofs.Example.{file12}
 use Rattle.blocks.specs.Control.{opOf}
 use Rattle.blocks.specs.Lists.{listFrom}
 use Rattle.blocks.specs.Reading.{read, past, rounds, reading}
@@ -28,11 +29,6 @@ use Rattle.lending.specs.Lent.{cleared}
 use Rattle.execution.specs.Program.{carriedOut}
 use Rattle.runner.specs.Answers.{Answer, said, end, halt, unanswered, lent, Result}
 use Rattle.runner.specs.Whole.{runAdmitted, runOf}
-
--- `01 03 00 00 00 00`, `02 19` and fifteen `00`, `10 03 00 00 01 06 00 00 E4 00`, `89`
-file12 : List ℕ
-file12 =
-    0x01 ∷ 3 ∷ 0 ∷ 0 ∷ 0 ∷ 0 ∷ 0x02 ∷ 0x19 ∷ replicate 15 0 ++ (0x10 ∷ 3 ∷ 0 ∷ 0 ∷ 1 ∷ 6 ∷ 0 ∷ 0 ∷ 0xE4 ∷ 0 ∷ 0x89 ∷ [])
 
 -- BGNLOOP, SWITCH IMM0.x, CASE IMM0.x, BRK, ENDSWITCH, BRK, ENDLOOP, END
 file13 : List ℕ
@@ -109,5 +105,5 @@ cases : instructions ++ runs
     ∷ (1 ∷ 0 ∷ 0 ∷ rest 1156)
     ∷ (0 ∷ 5 ∷ rest 1156)
     ∷ []
-unfolding instructions file12 file13 ran numbers shown rest runs lengthOf word16 word32 destinationAt sourceAt declarationAt caseWord sizeAt next placeFrom opOf listFrom tableWords read past rounds reading firstLabel rows table wordsOf walk checkOf withDeclaration declarationFinding withImmediate immediateFinding sourceFound operandsFound withInstruction instructionFinding recordFinding destinationRule sourceRule allOperands declarationRule components registerWords registerOf taken sourceOf ifMasked masked firstWord unary resultWord resultWords nthSource sourcesOf familyOf recordEffect lentRefusal admissionOf cleared carriedOut runAdmitted runOf binary ternary wide halves countOr wideOf signed word lsb umsb imsb least greatest outside ubfe ibfe bfi
+unfolding instructions file13 ran numbers shown rest runs lengthOf word16 word32 destinationAt sourceAt declarationAt caseWord sizeAt next placeFrom opOf listFrom tableWords read past rounds reading firstLabel rows table wordsOf walk checkOf withDeclaration declarationFinding withImmediate immediateFinding sourceFound operandsFound withInstruction instructionFinding recordFinding destinationRule sourceRule allOperands declarationRule components registerWords registerOf taken sourceOf ifMasked masked firstWord unary resultWord resultWords nthSource sourcesOf familyOf recordEffect lentRefusal admissionOf cleared carriedOut runAdmitted runOf binary ternary wide halves countOr wideOf signed word lsb umsb imsb least greatest outside ubfe ibfe bfi
 cases = refl

@@ -2,21 +2,20 @@
 -- Assumes nothing.
 use Rattle.format.proofs.Numbers.{little-length}
 use mathlib.Core.Path.{_≡_, refl, sym, ap, _∙_}
-use mathlib.Core.Logic.{inl}
-use mathlib.Core.Bool.{Bool, true, false}
+use mathlib.Core.Bool.{Bool, true, false, not, _&&_}
 use mathlib.Core.List.{List, [], _∷_, _++_, map}
 use Prim.Native.Nat.{ℕ, zero, suc, _+_, _-_, _*_, _/_, _%_, _^_, _≤_, _<_}
 use native.Mathlib.Omega.{arith}
 use native.Mathlib.Numerals.{add-one}
 use native.Mathlib.Nat.{add-zero, sub-zero}
-use borrow.Author.Tests.{ltb-true, ltb-false, lt-ltb}
+use borrow.Author.Tests.{ltb-true, ltb-false, not-true, not-false}
 use lib.Dec.{ltb}
 use lib.ListN.{length, getD, take, drop, set, length-append, length-drop, drop-of-length-le}
 use lib.Pow.{field, mod-mod-pow}
 use lib.Seq.{sets, take-length, drop-length, length-take-le, length-sets, drop-cons, drop-drop}
-use Rattle.format.specs.Kinds.{formOf, lengthOf, widths}
+use Rattle.format.specs.Kinds.{formOf, isKnown, widths}
 use Rattle.format.specs.Fields.{littleEndian}
-use Rattle.format.proofs.Widths.{sum, Known, few-widths, widths-end, widths-known, known-small, known-sum, inside-by}
+use Rattle.format.proofs.Widths.{sum, few-widths, widths-end, widths-known, known-small, known-sum, inside-by}
 use Rattle.text.specs.Decimal.{valueOf, valueFrom}
 use Rattle.text.specs.Parts.{space, split, first, same}
 use Rattle.text.proofs.Stores.{sets-append, front}
@@ -118,12 +117,9 @@ module _ (l : List ℕ) (from : ℕ) (inside : from ≤ length l) (rest digits :
       drop-of-length-le (drop from l) {i = length digits + 1} (omega (arith, f, ap length er)) in
       rw (← first-is) (drop-length l ∙ sym gone)
 
--- The widths of a record, its kind's byte the first.
-abbrev all : ℕ → List ℕ
-all kind = 1 ∷ widths (formOf kind)
-
-all-known : (kind : ℕ) → Known (all kind)
-all-known kind = (inl refl, widths-known kind)
+-- The widths of the fields after the kind.
+abbrev fields : ℕ → List ℕ
+fields kind = widths (formOf kind)
 
 pub bytes-length : (ws ns : List ℕ) → length (fieldBytes ws ns) ≡ sum ws
 unfolding fieldBytes
@@ -131,108 +127,123 @@ bytes-length [] ns = refl
 bytes-length (w ∷ ws) [] = length-append (littleEndian w 0) (fieldBytes ws []) ∙ rw (little-length w 0, bytes-length ws [])
 bytes-length (w ∷ ws) (n ∷ ns) = length-append (littleEndian w n) (fieldBytes ws ns) ∙ rw (little-length w n, bytes-length ws ns)
 
-pub record-short : (l : List ℕ) (size more : ℕ) → size + more ≡ length (lineRecord l) → size ≤ 128
+pub record-size : (l : List ℕ) → length (lineRecord l) ≡ 1 + sum (fields (kindIn l))
 unfolding lineRecord
-record-short l size more e =
-    omega (arith, e, bytes-length (all (kindIn l)) (numbersIn l), known-sum (all (kindIn l)) (all-known (kindIn l)), few-widths (kindIn l))
+record-size l = bytes-length (1 ∷ fields (kindIn l)) (numbersIn l)
 
-all-end : (kind i : ℕ) → getD (all kind) i 0 ≡ 0 → length (all kind) ≤ i
-all-end kind zero e = absurd (omega (arith, e))
-all-end kind (suc i) e = omega (arith, widths-end kind i e)
-
-pub width-after : (kind i w : ℕ) → (i ≡ 0 → ⊥) → w ≡ getD (widths (formOf kind)) (i - 1) 0 → w ≡ getD (all kind) i 0
-width-after kind zero w h e = absurd (h refl)
-width-after kind (suc i) w h e =
-    let one : suc i - 1 ≡ i = omega arith in
-    e ∙ ap (λ (k : ℕ). getD (widths (formOf kind)) k 0) one
-
-pub width-first : (kind i : ℕ) → i ≡ 0 → 1 ≡ getD (all kind) i 0
-width-first kind i e = rw e
+pub record-short : (l : List ℕ) → length (lineRecord l) ≤ 128
+record-short l = omega (arith, record-size l, known-sum (fields (kindIn l)) (widths-known (kindIn l)), few-widths (kindIn l))
 
 -- The bytes that the numbers from a place of a line on give to the fields from field i on.
 abbrev pub bytesLeft : ℕ → List ℕ → ℕ → ℕ → List ℕ
-bytesLeft kind l from i = fieldBytes (drop i (all kind)) (numbersIn (drop from l))
+bytesLeft kind l from i = fieldBytes (drop i (fields kind)) (numbersIn (drop from l))
 
-pub record-start : (l entry : List ℕ) (kind : ℕ) → kind ≡ kindIn l → sets entry 0 (bytesLeft kind l 0 0) ≡ sets entry 0 (lineRecord l)
-unfolding lineRecord
-record-start l entry kind e = rw e
-
-pub size-start : (l : List ℕ) (kind : ℕ) → kind ≡ kindIn l → 0 + length (bytesLeft kind l 0 0) ≡ length (lineRecord l)
-unfolding lineRecord
-size-start l kind e = rw e (omega arith)
-
-module _ (l : List ℕ) (kind from i w : ℕ) (ew : w ≡ getD (all kind) i 0) where
-  one-field : (rest : List ℕ)
-      → (w ≡ 0 → ⊥)
-      → rest ≡ drop (length (first (split space (drop from l))) + 1) (drop from l)
-      → bytesLeft kind l from i
-      ≡ littleEndian w (valueOf (first (split space (drop from l))) % 2 ^ 32) ++ fieldBytes (drop (i + 1) (all kind)) (numbersIn rest)
-  one-field rest h er =
+-- A number that a line has at a place gives one field, and what follows it the others.
+module _ (l : List ℕ) (from v next : ℕ)
+    (ev : v ≡ valueOf (first (split space (drop from l))) % 2 ^ 32)
+    (ed : drop next l ≡ drop (length (first (split space (drop from l))) + 1) (drop from l)) where
+  one-number : (w : ℕ) (ws : List ℕ) → w ≤ 4
+      → fieldBytes (w ∷ ws) (numbersIn (drop from l)) ≡ littleEndian w v ++ fieldBytes ws (numbersIn (drop next l))
+  one-number w ws small =
       let n : ℕ = length (first (split space (drop from l))) in
-      let inside : i < length (all kind) = inside-by (all kind) i w ew h in
-      let small : 8 * w ≤ 32 = omega (arith, ew, known-small (all kind) (all-known kind) i) in
-      let d : drop i (all kind) ≡ w ∷ drop (i + 1) (all kind) = drop-cons (all kind) i 0 inside ∙ rw (← ew, add-one i) in
-      ap (λ (ws : List ℕ). fieldBytes ws (numbersIn (drop from l))) d
-      ∙ first-number (drop from l) n refl w (drop (i + 1) (all kind)) rest er
-      ∙ rw (split-part space (drop from l) n refl, little-cut w 32 (valueOf (first (split space (drop from l)))) small)
+      first-number (drop from l) n refl w ws (drop next l) ed
+      ∙ rw (split-part space (drop from l) n refl, ev, little-cut w 32 (valueOf (first (split space (drop from l)))) (omega arith))
 
-  no-field : w ≡ 0 → bytesLeft kind l from i ≡ []
+  module _ (kind i w : ℕ) (ew : w ≡ getD (fields kind) i 0) (some : w ≡ 0 → ⊥) where
+    one-field : bytesLeft kind l from i ≡ littleEndian w v ++ bytesLeft kind l next (i + 1)
+    one-field =
+        let inside : i < length (fields kind) = inside-by (fields kind) i w ew some in
+        let d : drop i (fields kind) ≡ w ∷ drop (i + 1) (fields kind) = drop-cons (fields kind) i 0 inside ∙ rw (← ew, add-one i) in
+        ap (λ (ws : List ℕ). fieldBytes ws (numbersIn (drop from l))) d
+        ∙ one-number w (drop (i + 1) (fields kind)) (omega (arith, ew, known-small (fields kind) (widths-known kind) i))
+
+-- A number's bytes are put, and more after them.
+put-then : (out after : List ℕ) (at w v : ℕ) (more : List ℕ)
+    → after ≡ sets out at (littleEndian w v) → sets after (at + w) more ≡ sets out at (littleEndian w v ++ more)
+put-then out after at w v more ea =
+    let a : at + w ≡ at + length (littleEndian w v) = rw (little-length w v) in
+    rw (a, ea) (sym (sets-append out at (littleEndian w v) more))
+
+count-then : (at w v : ℕ) (more : List ℕ) → at + w + length more ≡ at + length (littleEndian w v ++ more)
+count-then at w v more = omega (arith, length-append (littleEndian w v) more, little-length w v)
+
+-- The first number gives the kind.
+module _ (l : List ℕ) (v next kind : ℕ)
+    (ev : v ≡ valueOf (first (split space (drop 0 l))) % 2 ^ 32)
+    (ed : drop next l ≡ drop (length (first (split space (drop 0 l))) + 1) (drop 0 l))
+    (ek : kind ≡ v % 256) where
+  record-parts : lineRecord l ≡ littleEndian 1 v ++ bytesLeft kind l next 0
+  unfolding lineRecord
+  record-parts =
+      let k : kindIn l ≡ kind = sym (ek ∙ kind-is l v ev) in
+      rw k (one-number l 0 v next ev ed 1 (fields kind) (omega arith))
+
+  pub record-put : (entry after out : List ℕ) → after ≡ sets entry 0 (littleEndian 1 v)
+      → out ≡ sets after 1 (bytesLeft kind l next 0) → out ≡ sets entry 0 (lineRecord l)
+  record-put entry after out ea eo = eo ∙ rw record-parts (put-then entry after 0 1 v (bytesLeft kind l next 0) ea)
+
+  module _ (size : ℕ) (es : size ≡ 1 + length (bytesLeft kind l next 0)) where
+    pub record-length : size ≡ length (lineRecord l)
+    record-length = omega (arith, es, ap length record-parts, count-then 0 1 v (bytesLeft kind l next 0))
+
+    pub record-few : size ≤ 128
+    record-few = omega (arith, record-length, record-short l)
+
+-- No field is left: the width past the last is 0, and no record has a twentieth field.
+module _ (l : List ℕ) (kind from i : ℕ) where
+  left-none : length (fields kind) ≤ i → bytesLeft kind l from i ≡ []
   unfolding fieldBytes
-  no-field z = rw (drop-of-length-le (all kind) (all-end kind i (sym ew ∙ z)))
+  left-none h = rw (drop-of-length-le (fields kind) h)
 
-all-done : (l : List ℕ) (kind from i : ℕ) → 20 ≤ i → bytesLeft kind l from i ≡ []
-unfolding fieldBytes
-all-done l kind from i h =
-    let few : length (all kind) ≤ i = omega (arith, few-widths kind, h) in
-    rw (drop-of-length-le (all kind) few)
+  no-field : (w : ℕ) → w ≡ getD (fields kind) i 0 → w ≡ 0 → bytesLeft kind l from i ≡ []
+  no-field w ew z = left-none (widths-end kind i (sym ew ∙ z))
+
+  all-done : 19 ≤ i → bytesLeft kind l from i ≡ []
+  all-done h = left-none (omega (arith, few-widths kind, h))
 
 module _ (l : List ℕ) (kind from size i : ℕ) where
   module _ (out whole : List ℕ) (e : sets out size (bytesLeft kind l from i) ≡ whole) where
-    pub record-next : (w v next : ℕ) (after : List ℕ)
-        → w ≡ getD (all kind) i 0
+    pub fields-next : (w v next : ℕ) (after : List ℕ)
+        → w ≡ getD (fields kind) i 0
         → (w ≡ 0 → ⊥)
         → v ≡ valueOf (first (split space (drop from l))) % 2 ^ 32
         → drop next l ≡ drop (length (first (split space (drop from l))) + 1) (drop from l)
         → after ≡ sets out size (littleEndian w v)
         → sets after (size + w) (bytesLeft kind l next (i + 1)) ≡ whole
-    record-next w v next after ew h ev ed ea =
-        let S : List ℕ = littleEndian w v in
-        let T : List ℕ = bytesLeft kind l next (i + 1) in
-        let m : bytesLeft kind l from i ≡ S ++ T = one-field l kind from i w ew (drop next l) h ed ∙ rw ev in
-        let a : size + w ≡ size + length S = rw (little-length w v) in
-        rw (a, ea) (sym (sets-append out size S T) ∙ ap (λ (t : List ℕ). sets out size t) (sym m) ∙ e)
+    fields-next w v next after ew h ev ed ea =
+        put-then out after size w v (bytesLeft kind l next (i + 1)) ea
+        ∙ ap (λ (t : List ℕ). sets out size t) (sym (one-field l from v next ev ed kind i w ew h))
+        ∙ e
 
-    pub record-put : (w : ℕ) → w ≡ getD (all kind) i 0 → w ≡ 0 → out ≡ whole
-    record-put w ew z = rw (← e, no-field l kind from i w ew z)
+    pub fields-put : (w : ℕ) → w ≡ getD (fields kind) i 0 → w ≡ 0 → out ≡ whole
+    fields-put w ew z = rw (← e, no-field l kind from i w ew z)
 
-    pub record-all-put : 20 ≤ i → out ≡ whole
-    record-all-put h = rw (← e, all-done l kind from i h)
+    pub fields-all-put : 19 ≤ i → out ≡ whole
+    fields-all-put h = rw (← e, all-done l kind from i h)
 
   module _ (total : ℕ) (e : size + length (bytesLeft kind l from i) ≡ total) where
-    pub size-next : (w next : ℕ)
-        → w ≡ getD (all kind) i 0
+    pub length-next : (w next : ℕ)
+        → w ≡ getD (fields kind) i 0
         → (w ≡ 0 → ⊥)
         → drop next l ≡ drop (length (first (split space (drop from l))) + 1) (drop from l)
         → size + w + length (bytesLeft kind l next (i + 1)) ≡ total
-    size-next w next ew h ed =
+    length-next w next ew h ed =
         let v : ℕ = valueOf (first (split space (drop from l))) % 2 ^ 32 in
-        let T : List ℕ = bytesLeft kind l next (i + 1) in
-        let m : bytesLeft kind l from i ≡ littleEndian w v ++ T = one-field l kind from i w ew (drop next l) h ed in
-        let c : length (bytesLeft kind l from i) ≡ length (littleEndian w v) + length T = rw m (length-append (littleEndian w v) T) in
-        omega (arith, c, little-length w v, e)
+        count-then size w v (bytesLeft kind l next (i + 1))
+        ∙ ap (λ (t : List ℕ). size + length t) (sym (one-field l from v next refl ed kind i w ew h))
+        ∙ e
 
-    pub record-length : (w : ℕ) → w ≡ getD (all kind) i 0 → w ≡ 0 → size ≡ total
-    record-length w ew z = omega (arith, e, ap length (no-field l kind from i w ew z))
+    pub fields-length : (w : ℕ) → w ≡ getD (fields kind) i 0 → w ≡ 0 → size ≡ total
+    fields-length w ew z = omega (arith, e, ap length (no-field l kind from i w ew z))
 
-    pub record-all-length : 20 ≤ i → size ≡ total
-    record-all-length h = omega (arith, e, ap length (all-done l kind from i h))
+    pub fields-all-length : 19 ≤ i → size ≡ total
+    fields-all-length h = omega (arith, e, ap length (all-done l kind from i h))
 
 -- ---- Whether a line is that of a record
 
 -- A record has its kind's byte.
 pub record-some : (l : List ℕ) → 0 < length (lineRecord l)
-unfolding lineRecord
-record-some l = omega (arith, bytes-length (all (kindIn l)) (numbersIn l))
+record-some l = omega (arith, record-size l)
 
 pub line-counted : (r zeros out : List ℕ) (n : ℕ)
     → out ≡ sets zeros 0 (recordLine r 0)
@@ -242,24 +253,21 @@ pub line-counted : (r zeros out : List ℕ) (n : ℕ)
     → n ≡ length (take n out)
 line-counted r zeros out n eo en few room = sym (length-take-le n out (omega (arith, few, room, ap length eo, length-sets zeros 0 (recordLine r 0))))
 
-module _ (r l : List ℕ) (kind k : ℕ) (ek : kind ≡ getD r 0 0) (el : k ≡ lengthOf kind) where
-  e : k ≡ lengthOf (getD r 0 0)
-  e = el ∙ ap lengthOf ek
-
-  pub unknown-line : k ≡ 255 → false ≡ isLineOf r l
+module _ (r l : List ℕ) (kind : ℕ) (known : Bool) (ek : kind ≡ getD r 0 0) (e : known ≡ isKnown kind) where
+  asked : isLineOf r l ≡ (known && same (recordLine r 0) l)
   unfolding isLineOf
-  unknown-line h = rw (← e, h)
+  asked = ap (λ (b : Bool). b && same (recordLine r 0) l) (sym (e ∙ ap isKnown ek))
+
+  pub unknown-line : not known ≡ true → false ≡ isLineOf r l
+  unknown-line h = sym (asked ∙ rw (not-true known h))
 
   pub line-same : (b : Bool) (zeros out : List ℕ) (n : ℕ)
-      → (k ≡ 255 → ⊥)
-      → k < 2 ^ 8
+      → not known ≡ false
       → out ≡ sets zeros 0 (recordLine r 0)
       → n ≡ length (recordLine r 0)
       → n ≤ 230
       → length zeros ≡ 256
       → b ≡ same (take n out) l
       → b ≡ isLineOf r l
-  unfolding isLineOf
-  line-same b zeros out n h f eo en few room eb =
-      let known : k < 255 = omega (arith, h, f) in
-      eb ∙ rw (front zeros out (recordLine r 0) n eo en (omega (arith, en, few, room)), ← e, lt-ltb k 255 known)
+  line-same b zeros out n h eo en few room eb =
+      eb ∙ ap (λ (t : List ℕ). same t l) (front zeros out (recordLine r 0) n eo en (omega (arith, en, few, room))) ∙ sym (asked ∙ rw (not-false known h))

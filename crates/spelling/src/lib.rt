@@ -1,7 +1,7 @@
 // The record that a line of a listing gives, and whether the line is that record's own.
-use format::kinds::UNKNOWN;
-use format::kinds::body_length;
+use format::kinds::MOST_FIELDS;
 use format::kinds::field_width;
+use format::kinds::is_known;
 use lines::put_line;
 use text::numbers::value;
 use text::output::put;
@@ -10,15 +10,14 @@ use text::parts::first_part;
 use text::parts::is_same;
 use text::parts::rest_from;
 ghost use mathlib.Core.Path.{_≡_};
-ghost use mathlib.Core.List.{_∷_};
 ghost use Prim.Native.Nat.{_+_, _%_, _^_, _≤_};
-ghost use lib.ListN.{length, getD, drop};
+ghost use lib.ListN.{length, drop};
 ghost use lib.Seq.{sets};
 ghost use Rattle.format.specs.Kinds.{formOf, widths};
 ghost use Rattle.format.specs.Fields.{littleEndian};
 ghost use Rattle.text.specs.Decimal.{valueOf};
 ghost use Rattle.text.specs.Parts.{space, split, first};
-ghost use Rattle.spelling.specs.Spelling.{kindIn, lineRecord, isLineOf};
+ghost use Rattle.spelling.specs.Spelling.{numbersIn, fieldBytes, lineRecord, isLineOf};
 
 // Puts the lowest bytes of a number, so many of them, the lowest first.
 fn put_number(n: u32, width: u8, output: &mut [u8], at: usize)
@@ -59,56 +58,46 @@ fn number_from(line: &[u8], from: usize) -> Number
     Number { value, next: end }
 }
 
-// The byte of the kind that a line's first number gives.
-fn kind_in(line: &[u8]) -> u8
-    ensures { λ r. ⌜ r ≡ kindIn (now (line .entry)) ⌝ }
+// Puts the fields of a record of this kind after its first byte, from the numbers of a line from a place on; answers how many bytes the
+// record has.
+fn put_fields(kind: u8, line: &[u8], from: usize, output: &mut [u8]) -> usize
+    requires { ⌜ from ≤ length (now line) ⌝ }
+    ensures put { λ _. ⌜ now (output .exit) ≡ sets (now (output .entry)) 1 (fieldBytes (widths (formOf kind)) (numbersIn (drop from (now (line .entry))))) ⌝ }
+    ensures length { λ r. ⌜ r ≡ 1 + length (fieldBytes (widths (formOf kind)) (numbersIn (drop from (now (line .entry))))) ⌝ }
 {
-    let number = number_from(line, 0);
-    (number.value % 256) as u8
-}
-
-// As many numbers as a line may have: the kind and at most 19 fields.
-const MOST_NUMBERS: u8 = 20;
-
-// How many bytes field i of a record of this kind has, its kind being field 0; 0 past the last.
-fn width_at(kind: u8, i: u8) -> u8
-    ensures { λ r. ⌜ r ≡ getD (1 ∷ widths (formOf kind)) i 0 ⌝ }
-{
-    if i == 0 {
-        return 1;
-    }
-    field_width(kind, i - 1)
-}
-
-// Puts the record that a line's numbers give, and answers how many bytes it has.
-pub fn put_record(line: &[u8], output: &mut [u8]) -> usize
-    ensures put { λ _. ⌜ now (output .exit) ≡ sets (now (output .entry)) 0 (lineRecord (now (line .entry))) ⌝ }
-    ensures length { λ r. ⌜ r ≡ length (lineRecord (now (line .entry))) ⌝ }
-    ensures few { λ r. ⌜ r ≤ 128 ⌝ }
-{
-    let kind = kind_in(line);
-    let mut from: usize = 0;
-    let mut size: usize = 0;
+    let mut at = from;
+    let mut size: usize = 1;
     let mut i: u8 = 0;
-    while i < MOST_NUMBERS {
-        let width = width_at(kind, i);
+    while i < MOST_FIELDS {
+        let width = field_width(kind, i);
         if width == 0 {
             return size;
         }
-        let number = number_from(line, from);
+        let number = number_from(line, at);
         put_number(number.value, width, output, size);
-        from = number.next;
+        at = number.next;
         size += width as usize;
         i += 1;
     }
     size
 }
 
+// Puts the record that a line's numbers give, the lowest byte of the first being its kind, and answers how many bytes it has.
+pub fn put_record(line: &[u8], output: &mut [u8]) -> usize
+    ensures put { λ _. ⌜ now (output .exit) ≡ sets (now (output .entry)) 0 (lineRecord (now (line .entry))) ⌝ }
+    ensures length { λ r. ⌜ r ≡ length (lineRecord (now (line .entry))) ⌝ }
+    ensures few { λ r. ⌜ r ≤ 128 ⌝ }
+{
+    let first = number_from(line, 0);
+    put_number(first.value, 1, output, 0);
+    put_fields((first.value % 256) as u8, line, first.next, output)
+}
+
 // Whether a line is that of a record, and the record of a known kind.
 pub fn is_line_of(bytes: &[u8], line: &[u8]) -> bool
     ensures { λ r. ⌜ r ≡ isLineOf (now (bytes .entry)) (now (line .entry)) ⌝ }
 {
-    if body_length(readers::byte_at(bytes, 0)) == UNKNOWN {
+    if !is_known(readers::byte_at(bytes, 0)) {
         return false;
     }
     let mut expected = [0u8; 256];

@@ -9,6 +9,7 @@ use lib.Dec.{ltb}
 use borrow.Author.Tests.{ltb-true, ltb-false}
 use Rattle.text.specs.Decimal.{digit, decimal, valueFrom, valueOf}
 use Rattle.text.proofs.Decimals.{decimal-small, decimal-large}
+use Rattle.text.proofs.Each.{Each, each-append}
 
 -- What holds of one digit, and of a number's digits where it holds of those of the tenth part, holds of the digits of every number.
 module _ (P : ℕ → List ℕ → Type 0) (one : (n : ℕ) → n < 10 → P n (digit n ∷ []))
@@ -37,19 +38,6 @@ value-decimal =
     (λ n h e. rw (value-last 0 (decimal (n / 10)) (digit (n % 10)), e) (omega arith))
 
 -- ---- The digits
-
--- Each of these numbers is as P says.
-abbrev pub Each : (ℕ → Type 0) → List ℕ → Type 0
-Each P [] = Unit {0}
-Each P (x ∷ xs) = P x × Each P xs
-
-pub each-append : (P : ℕ → Type 0) (xs ys : List ℕ) → Each P xs → Each P ys → Each P (xs ++ ys)
-each-append P [] ys a b = b
-each-append P (x ∷ xs) ys a b = (a .0, each-append P xs ys (a .1) b)
-
-pub each-weaker : (P Q : ℕ → Type 0) → ((b : ℕ) → P b → Q b) → (xs : List ℕ) → Each P xs → Each Q xs
-each-weaker P Q f [] a = tt
-each-weaker P Q f (x ∷ xs) a = (f x (a .0), each-weaker P Q f xs (a .1))
 
 -- "all decimal": the bytes '0' to '9'
 abbrev pub Digit : ℕ → Type 0

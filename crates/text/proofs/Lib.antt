@@ -1,7 +1,10 @@
 pub mod Decimals
 pub mod Sameness
 pub mod Splitting
+pub mod Ends
 pub mod Stores
+pub mod Moves
 pub mod Values
+pub mod Each
 pub mod Digits
 pub mod Lines

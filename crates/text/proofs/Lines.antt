@@ -10,7 +10,8 @@ use lib.Dec.{eqb}
 use borrow.Author.Tests.{eq-eqb, ne-eqb, eqb-true}
 use Rattle.text.specs.Decimal.{decimal, valueOf}
 use Rattle.text.specs.Parts.{space, lineFeed, spaced, line, longer, split}
-use Rattle.text.proofs.Digits.{Each, each-append, each-weaker, Digit, decimal-digits, value-decimal}
+use Rattle.text.proofs.Each.{Each, each-append, each-weaker}
+use Rattle.text.proofs.Digits.{Digit, decimal-digits, value-decimal}
 
 -- ---- Parts without the separator
 
@@ -23,10 +24,35 @@ unfolding split
 split-whole c [] w = refl
 split-whole c (b ∷ p) w = rw (ne-eqb b c (w .0), split-whole c p (w .1))
 
-pub split-ended : (c : ℕ) (p rest : List ℕ) → Without c p → split c (p ++ (c ∷ rest)) ≡ p ∷ split c rest
+-- ---- Parts before and after a separator
+
+-- There is at least one part.
+pub split-some : (c : ℕ) (text : List ℕ) → split c text ≡ [] → ⊥
 unfolding split
-split-ended c [] rest w = rw (eq-eqb c c refl)
-split-ended c (b ∷ p) rest w = rw (ne-eqb b c (w .0), split-ended c p rest (w .1))
+split-some c [] e = let z : _≡_ {A = ℕ} 0 1 = cc in omega arith
+split-some c (b ∷ bs) e = by (eqb b c) (split c bs) (split-some c bs) e where
+  by : (t : Bool) (ps : List (List ℕ)) → (ps ≡ [] → ⊥) → cond t ([] ∷ ps) (longer b ps) ≡ [] → ⊥
+  by true ps s e = let z : _≡_ {A = ℕ} 0 1 = cc in omega arith
+  by false [] s e = s refl
+  by false (p ∷ ps) s e = let z : _≡_ {A = ℕ} 0 1 = cc in omega arith
+
+longer-append : (b : ℕ) (ps qs : List (List ℕ)) → (ps ≡ [] → ⊥) → longer b (ps ++ qs) ≡ longer b ps ++ qs
+longer-append b [] qs s = absurd (s refl)
+longer-append b (p ∷ ps) qs s = refl
+
+-- A separator stands between the parts before it and those after it.
+pub split-between : (c : ℕ) (text rest : List ℕ) → split c (text ++ (c ∷ rest)) ≡ split c text ++ split c rest
+unfolding split
+split-between c [] rest = rw (eq-eqb c c refl)
+split-between c (b ∷ text) rest = by (eqb b c) (split-between c text rest) where
+  by : (t : Bool) → split c (text ++ (c ∷ rest)) ≡ split c text ++ split c rest
+      → cond t ([] ∷ split c (text ++ (c ∷ rest))) (longer b (split c (text ++ (c ∷ rest))))
+      ≡ cond t ([] ∷ split c text) (longer b (split c text)) ++ split c rest
+  by true e = rw e
+  by false e = rw e (longer-append b (split c text) (split c rest) (split-some c text))
+
+pub split-ended : (c : ℕ) (p rest : List ℕ) → Without c p → split c (p ++ (c ∷ rest)) ≡ p ∷ split c rest
+split-ended c p rest w = split-between c p rest ∙ rw (split-whole c p w)
 
 -- ---- A line
 
@@ -74,16 +100,6 @@ longer-joined : (c b : ℕ) (ps : List (List ℕ)) → (ps ≡ [] → ⊥) → j
 longer-joined c b [] s = absurd (s refl)
 longer-joined c b (p ∷ []) s = refl
 longer-joined c b (p ∷ q ∷ ps) s = refl
-
--- There is at least one part.
-pub split-some : (c : ℕ) (text : List ℕ) → split c text ≡ [] → ⊥
-unfolding split
-split-some c [] e = let z : _≡_ {A = ℕ} 0 1 = cc in omega arith
-split-some c (b ∷ bs) e = by (eqb b c) (split c bs) (split-some c bs) e where
-  by : (t : Bool) (ps : List (List ℕ)) → (ps ≡ [] → ⊥) → cond t ([] ∷ ps) (longer b ps) ≡ [] → ⊥
-  by true ps s e = let z : _≡_ {A = ℕ} 0 1 = cc in omega arith
-  by false [] s e = s refl
-  by false (p ∷ ps) s e = let z : _≡_ {A = ℕ} 0 1 = cc in omega arith
 
 -- The parts give the text back.
 pub split-joined : (c : ℕ) (text : List ℕ) → joinedBy c (split c text) ≡ text

@@ -2,7 +2,7 @@
 -- Assumes nothing.
 use mathlib.Core.Path.{_≡_, refl, sym, ap, ap₂, _∙_}
 use mathlib.Core.Bool.{Bool, true, false}
-use mathlib.Core.List.{List, [], _∷_}
+use mathlib.Core.List.{List, [], _∷_, _++_}
 use Prim.Native.Nat.{ℕ, suc, _+_, _-_, _<_, _≤_}
 use native.Mathlib.Omega.{arith}
 use native.Mathlib.Numerals.{add-one}
@@ -11,6 +11,7 @@ use lib.ListN.{length, take, drop, getD, drop-of-length-le, length-drop}
 use lib.Seq.{take-length, take-all, take-nil, drop-length, drop-cons, length-take-le}
 use borrow.Author.Tests.{eqb-true, eq-eqb, ne-eqb}
 use Rattle.text.specs.Parts.{split, first}
+use Rattle.text.proofs.Lines.{Without}
 
 -- A text's parts are p and those after it.
 record Parted (c : ℕ) (l p : List ℕ) (ps : List (List ℕ)) : Type 0 where
@@ -108,6 +109,11 @@ module _ (c : ℕ) where
   goes-on : (b : ℕ) (bs : List ℕ) → (b ≡ c → ⊥) → length (first (split c (b ∷ bs))) ≡ suc (length (first (split c bs)))
   unfolding split
   goes-on b bs d = rw (ne-eqb b c d, found c bs .parts)
+
+  -- A text without a separator lies in the first part.
+  pub first-without : (p rest : List ℕ) → Without c p → length p ≤ length (first (split c (p ++ rest)))
+  first-without [] rest w = omega arith
+  first-without (b ∷ p) rest w = omega (arith, goes-on b (p ++ rest) (w .0), first-without p rest (w .1))
 
   pub part-start : (l : List ℕ) → 0 + length (first (split c (drop 0 l))) ≡ length (first (split c l))
   part-start l = omega arith

@@ -1,9 +1,9 @@
 -- Lines of numbers, and the parts of a text between its separators.
 -- Assumes nothing.
-use Prim.Native.Nat.{ℕ}
-use mathlib.Core.Bool.{Bool, true, false, cond, _&&_}
+use Prim.Native.Nat.{ℕ, suc}
+use mathlib.Core.Bool.{Bool, true, false, cond, _&&_, _||_}
 use mathlib.Core.List.{List, [], _∷_, _++_}
-use lib.Dec.{eqb}
+use lib.Dec.{eqb, ltb}
 use Rattle.text.specs.Decimal.{decimal}
 
 abbrev pub space : ℕ
@@ -35,6 +35,11 @@ split c (b ∷ bs) = cond (eqb b c) ([] ∷ split c bs) (longer b (split c bs))
 abbrev pub first : List (List ℕ) → List ℕ
 first [] = []
 first (p ∷ ps) = p
+
+-- How far a text goes up to its last separator, that among it: 0 where it has none.
+unfoldable pub endedLength : ℕ → List ℕ → ℕ
+endedLength c [] = 0
+endedLength c (b ∷ bs) = cond (eqb b c || ltb 0 (endedLength c bs)) (suc (endedLength c bs)) 0
 
 -- Whether two texts are the same.
 unfoldable pub same : List ℕ → List ℕ → Bool

@@ -1,7 +1,7 @@
 // A lent output: written from its front, where it is long enough.
 ghost use mathlib.Core.Path.{_≡_};
 ghost use Prim.Native.Nat.{_+_};
-ghost use lib.ListN.{set};
+ghost use lib.ListN.{set, drop};
 ghost use lib.Seq.{sets};
 ghost use Rattle.text.specs.Output.{answered, written, delivered};
 
@@ -35,6 +35,19 @@ pub fn put_all(output: &mut [u8], at: usize, bytes: &[u8])
     while i < bytes.len() {
         put(output, at, i, bytes[i]);
         i += 1;
+    }
+}
+
+// Moves what a text has from a place on to its front.
+pub fn move_to_front(text: &mut [u8], from: usize)
+    ensures { λ _. ⌜ now (text .exit) ≡ sets (now (text .entry)) 0 (drop from (now (text .entry))) ⌝ }
+{
+    let mut to: usize = 0;
+    let mut at = from;
+    while at < text.len() {
+        text[to] = text[at];
+        to += 1;
+        at += 1;
     }
 }
 

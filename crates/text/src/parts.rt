@@ -1,7 +1,7 @@
 // The parts of a text between its separators.
 ghost use mathlib.Core.Path.{_≡_};
 ghost use lib.ListN.{length, drop};
-ghost use Rattle.text.specs.Parts.{same, first, split};
+ghost use Rattle.text.specs.Parts.{same, first, split, endedLength};
 
 pub const SPACE: u8 = 32;
 
@@ -27,6 +27,20 @@ pub fn first_part(bytes: &[u8], separator: u8) -> &[u8]
 {
     let n = part_length(bytes, separator);
     &bytes[..n]
+}
+
+// How far a text goes up to its last separator, that among it: 0 where it has none.
+pub fn ended_length(bytes: &[u8], separator: u8) -> usize
+    ensures { λ r. ⌜ r ≡ endedLength separator (now (bytes .entry)) ⌝ }
+{
+    let mut end = bytes.len();
+    while end > 0 {
+        if bytes[end - 1] == separator {
+            return end;
+        }
+        end -= 1;
+    }
+    0
 }
 
 // What a text has from a place on, nothing past its end.

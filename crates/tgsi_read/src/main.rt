@@ -5,13 +5,16 @@ use files::Read;
 use libc::STDERR_FILENO;
 use libc::STDOUT_FILENO;
 use text::output::Filled;
+ghost use mathlib.Core.Path.{_≡_};
+ghost use lib.ListN.{length};
 ghost use Rattle.io.specs.Counts.{Counts};
 
 mod help;
+mod pieces;
 mod saving;
 
 // The most bytes that the listing of a file of 65,536 bytes can have: a byte comes to at most four, "255" and a space or a line feed.
-const LONGEST: usize = 262144;
+const LONGEST_LISTING: usize = 262144;
 
 // `wrote N bytes`, of a file that is written by then.
 fn wrote_line(n: usize) {
@@ -38,41 +41,41 @@ fn read(text: &[u8]) {
     }
 }
 
-// Puts a listing at the start of a buffer. One that is longer than any is not taken.
-fn text_named(path: &[u8], text: &mut [u8]) -> Read
+// Puts an open listing at the start of a buffer. One that is longer than any is refused here and not taken.
+fn listing_text(fd: i32, path: &[u8], text: &mut [u8]) -> Read
+    requires { ⌜ length (now text) ≡ 262145 ⌝ }
     ensures { λ r. ⌜ Counts (r .count) (now (text .exit)) ⌝ }
 {
-    let read = files::read_named(path, text);
-    if LONGEST < read.count {
-        files::fault_line(
-            path,
-            b": over 262,144 bytes, more than the listing of any program file",
-        );
-        return FAILED;
+    let read = files::fill(fd, path, text);
+    if read.count <= LONGEST_LISTING {
+        return read;
     }
-    read
+    pieces::refuse(fd, path, text);
+    FAILED
 }
 
-// The same of the file that the first argument names.
-fn listing_text(text: &mut [u8]) -> Read
-    ensures { λ r. ⌜ Counts (r .count) (now (text .exit)) ⌝ }
-{
-    let mut path = io::buffer();
-    let name = files::name_of(1, b"listing", &mut path);
-    if !name.whole {
-        return FAILED;
+// Reads a listing by its name, and writes its file. The array has one byte more than any listing.
+fn read_path(path: &[u8]) {
+    let fd = files::open(path);
+    if fd < 0 {
+        return;
     }
-    let n = name.count;
-    text_named(&path[..n], text)
-}
-
-// Reads the listing, one byte more than any has, and writes its file.
-fn read_named() {
     let mut text = [0u8; 262145];
-    let t = listing_text(&mut text);
+    let t = listing_text(fd, path, &mut text);
+    libc::close(fd);
     if t.whole {
         let n = t.count;
         read(&text[..n]);
+    }
+}
+
+// The same of the file that the first argument names.
+fn read_named() {
+    let mut path = io::buffer();
+    let name = files::name_of(1, b"listing", &mut path);
+    if name.whole {
+        let n = name.count;
+        read_path(&path[..n]);
     }
 }
 

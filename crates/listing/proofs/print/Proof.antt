@@ -1,7 +1,7 @@
--- Refused, too long for the output, or put into it.
+-- What was written is read back, since a lent file has bytes only.
 -- Assumes nothing.
 use borrow.Author.Needs.{needs}
-use Rattle.listing.proofs.Delivering.{file-fits, print-refused, print-short, print-done}
+use Rattle.listing.proofs.CallsBack.{printed-back}
 use Rattle.listing.proofs.print.Statement.{statement}
 use Rattle.listing.proofs.print.Tie as tie
 
@@ -10,13 +10,6 @@ print-spec =
     tie.close
     (tie.spec
     (λ c κs. search needs)
+    (λ c κs. search needs)
     (search needs)
-    (search needs)
-    (λ c. search (needs, print-refused))
-    (search needs)
-    (search needs)
-    (λ c κs. search (needs, file-fits))
-    (λ c. search (needs, print-short))
-    (λ c κs. search (needs, file-fits))
-    (search needs)
-    (λ c. search (needs, print-done)))
+    (λ c. (search needs, λ n is. search (needs, printed-back, c .all-bytes .ensures))))
