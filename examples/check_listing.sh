@@ -144,10 +144,29 @@ head -c 262145 /dev/zero >"$room/listing"
 long_malformed 0
 stays 2 "refused 30 0
 malformed line, also an unknown kind or a number too large for its field" /dev/zero
-# Through a pipe that pauses five bytes into the second piece.
-slowly() { { head -c 262150 "$room/mixed"; sleep 0.1; tail -c +262151 "$room/mixed"; } | "$read" /dev/stdin "$room/none"; }
+# `thirteens COUNT`: of 13-byte lines 20,165 are one piece. The listing ends with it, or after it come an empty line, a line that has
+# no line feed, one that is too long, and a good one.
+thirteens() { awk -v n="$1" 'BEGIN { for (i = 0; i < n; i++) print "1 3 100 1000" }'; }
+thirteens 20165 >"$room/listing"
+long_file
+for rest in '\n' '1' '1 3 100 1000' "$(printf '%0600d\\n' 7)" '\n1 3 0 0\n'; do
+    { thirteens 20165; printf '%b' "$rest"; } >"$room/listing"
+    long_malformed 262145
+done
+{ thirteens 20165; echo 137; } >"$room/listing"
+long_file
+# A byte without a line feed, the last one of a full piece; a line of 5,000 digits, cut where the piece ends.
+{ awk 'BEGIN { for (i = 0; i < 65536; i++) print 128 }'; printf 1; } >"$room/listing"
+long_malformed 262144
+{ thirteens 20000; printf '%05000d\n' 7; thirteens 100; } >"$room/listing"
+long_malformed 260000
+# Through a pipe that pauses five bytes into the second piece, well formed and not.
+slowly() { { head -c 262150 "$1"; sleep 0.1; tail -c +262151 "$1"; } | "$read" /dev/stdin "$room/none"; }
 gives 2 "" "refused 1 0
-file over 65,536 bytes" slowly
+file over 65,536 bytes" slowly "$room/mixed"
+awk 'NR == 150001 { print "0" $0; next } { print }' "$room/mixed" >"$room/listing"
+gives 2 "" "refused 30 $(head -n 150000 "$room/mixed" | wc -c)
+malformed line, also an unknown kind or a number too large for its field" slowly "$room/listing"
 [ ! -e "$room/none" ]
 
 gives 0 "refused 13 0

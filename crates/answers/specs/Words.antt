@@ -64,14 +64,14 @@ abbrev pub resultInWords : Result → Ran
 resultInWords x = record { answer = answerOf (x .answer); lent = x .lent }
 
 -- What a host holds after a call that writes to an output: the answer in words, and the output's bytes.
-pub record WrittenInWords : Type 0 where
+pub record FilledOutput : Type 0 where
   pub answer : Answer
   pub output : List ℕ
 
-abbrev pub afterFilling : Answer → List ℕ → WrittenInWords
+abbrev pub afterFilling : Answer → List ℕ → FilledOutput
 afterFilling answer output = record { answer = answer; output = output }
 
-abbrev pub writtenInWords : Written → WrittenInWords
+abbrev pub writtenInWords : Written → FilledOutput
 writtenInWords x = afterFilling (filledWords (x .answer)) (x .output)
 
 -- A part of the file: where it starts, and how many bytes it has.

@@ -54,7 +54,7 @@ pub fn name_of(argument: usize, title: &[u8], path: &mut [u8]) -> Read
 }
 
 // Puts a file at the start of a buffer, as much of it as fits.
-pub fn read_named(path: &[u8], buffer: &mut [u8]) -> Read
+fn read_named(path: &[u8], buffer: &mut [u8]) -> Read
     ensures { λ r. ⌜ Counts (r .count) (now (buffer .exit)) ⌝ }
 {
     let fd = reading::open(path);

@@ -5,7 +5,7 @@ use mathlib.Core.Bool.{Bool, true, false}
 use mathlib.Core.List.{List}
 use Prim.Native.Nat.{ℕ, _≤_, _<_}
 use native.Mathlib.Omega.{arith}
-use borrow.Author.Tests.{ltb-true, ltb-false, lt-ltb, le-ltb}
+use borrow.Author.Tests.{ltb-true, ltb-false}
 use lib.Dec.{ltb}
 use lib.ListN.{length, take}
 use lib.Seq.{sets, length-take-le}
@@ -17,7 +17,8 @@ use Rattle.checker.specs.declared.Verdict.the-variants.{Accepted, Refused}
 use Rattle.checker.proofs.Walking.{check-long}
 use Rattle.checker.proofs.Told.{check-refused, check-accepted}
 use Rattle.checker.proofs.Followed.{followed}
-use Rattle.text.specs.Output.{Written, wrote, refusal, written, delivered, outputShort}
+use Rattle.text.specs.Output.{Written, wrote, refusal, written, delivered}
+use Rattle.text.proofs.Stores.{deliver-all}
 use Rattle.listing.specs.Listing.{listingOf}
 use Rattle.listing.specs.Reading.{bytesOf}
 use Rattle.listing.specs.Calls.{deliveredIf, printOf, readOf}
@@ -35,22 +36,18 @@ module _ (file : List ℕ) (v : Verdict) (e : told v ≡ toldOf (checkOf file)) 
     pub file-fits : length file ≤ 65536
     file-fits = followed file (check-accepted file v e n r .0) (check-accepted file v e n r .1) .0
 
-    pub print-short : (output : List ℕ) (k : ℕ) → k ≡ length (listingOf file) → length output < k → written (refusal outputShort 0) output ≡ printOf file output
-    unfolding printOf delivered
-    print-short output k ek h =
-        let short : length output < length (listingOf file) = omega (arith, ek, h) in
-        rw (check-accepted file v e n r .1, lt-ltb (length output) (length (listingOf file)) short)
+    pub print-done : (output : List ℕ) (w : Written) → w ≡ delivered (listingOf file) output → w ≡ printOf file output
+    unfolding printOf
+    print-done output w ew = ew ∙ rw (check-accepted file v e n r .1)
 
-    pub print-done : (output after : List ℕ) (k m : ℕ)
-        → k ≡ length (listingOf file)
-        → k ≤ length output
-        → m ≡ length (listingOf file)
-        → after ≡ sets output 0 (listingOf file)
-        → written (wrote m) after ≡ printOf file output
-    unfolding printOf delivered
-    print-done output after k m ek h em ea =
-        let room : length (listingOf file) ≤ length output = omega (arith, ek, h) in
-        rw (check-accepted file v e n r .1, le-ltb (length output) (length (listingOf file)) room, em, ea)
+-- The listing, where there is room for as many bytes as were counted.
+pub lines-done : (listing output after : List ℕ) (k m : ℕ)
+    → k ≡ length listing
+    → k ≤ length output
+    → m ≡ length listing
+    → after ≡ sets output 0 listing
+    → written (wrote m) after ≡ delivered listing output
+lines-done listing output after k m ek room em ea = rw em (deliver-all listing output after ea (omega (arith, ek, room)))
 
 -- ---- Reading
 

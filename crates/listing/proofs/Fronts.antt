@@ -9,8 +9,9 @@ use borrow.Author.Tests.{eq-eqb, ne-eqb}
 use Rattle.text.specs.Parts.{lineFeed, split, endedLength}
 use Rattle.text.proofs.Ends.{ended-within}
 use Rattle.listing.specs.Reading.{spelled, readLines, bytesOf}
-use Rattle.listing.specs.Pieces.{malformedIn, nothing, lines, pieceAs, pieceOf}
+use Rattle.listing.specs.Pieces.{pieceAs, pieceOf}
 use Rattle.listing.specs.Inner.Found.{Spelt}
+use Rattle.listing.specs.declared.pieces.Piece.{Piece}
 use Rattle.listing.specs.declared.reading.Found.{Found}
 
 pub no-bytes : bytesOf [] ≡ spelled []
@@ -32,15 +33,15 @@ module _ (text : List ℕ) (n : ℕ) (e : n ≡ endedLength lineFeed text) where
     unended : pieceOf text ≡ pieceAs text 0 (spelled [])
     unended = piece-is ∙ rw (z, no-bytes)
 
-    pub piece-empty : length text ≡ 0 → nothing ≡ pieceOf text
+    pub piece-empty : length text ≡ 0 → Piece.Nothing ≡ pieceOf text
     piece-empty none = sym (unended ∙ rw (eq-eqb (length text) 0 none))
 
-    pub piece-unended : (length text ≡ 0 → ⊥) → malformedIn 0 ≡ pieceOf text
+    pub piece-unended : (length text ≡ 0 → ⊥) → Piece.Unended ≡ pieceOf text
     piece-unended some = sym (unended ∙ rw (ne-eqb (length text) 0 some))
 
   module _ (array : List ℕ) (r : Found) (s : Spelt r array (bytesOf (take n text))) where
-    pub piece-malformed : (at : ℕ) → r ≡ Found.Malformed at → malformedIn at ≡ pieceOf text
+    pub piece-malformed : (at : ℕ) → r ≡ Found.Malformed at → Piece.Malformed at ≡ pieceOf text
     piece-malformed at is = sym (piece-is ∙ rw (s .bad at is))
 
-    pub piece-lines : (count : ℕ) → r ≡ Found.File count → (n ≡ 0 → ⊥) → lines n ≡ pieceOf text
+    pub piece-lines : (count : ℕ) → r ≡ Found.File count → (n ≡ 0 → ⊥) → Piece.Lines n ≡ pieceOf text
     piece-lines count is some = sym (piece-is ∙ rw (s .good count is .1, ne-eqb n 0 some))

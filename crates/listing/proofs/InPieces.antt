@@ -1,7 +1,7 @@
 -- A long text read in pieces: what they tell, one after another, is what reading the whole text answers.
 -- Assumes nothing.
 use mathlib.Core.Path.{_≡_, refl, sym, ap, _∙_}
-use mathlib.Core.Logic.{_⊎_, inl, ⊎-elim}
+use mathlib.Core.Logic.{_⊎_, ⊎-elim}
 use mathlib.Core.Bool.{Bool, true, false, cond}
 use mathlib.Core.List.{List, [], _∷_, _++_, append-nil, append-assoc}
 use Prim.Native.Nat.{ℕ, _+_, _*_, _<_, _≤_}
@@ -18,7 +18,8 @@ use Rattle.text.specs.Parts.{lineFeed, first, endedLength}
 use Rattle.text.proofs.Ends.{Last, ended}
 use Rattle.listing.specs.Reading.{Reading, spelled, malformed, joined, bytesOf}
 use Rattle.listing.specs.Calls.{readOf}
-use Rattle.listing.specs.Pieces.{Told, malformedIn, nothing, lines, pieceAs, pieceOf}
+use Rattle.listing.specs.Pieces.{pieceAs, pieceOf}
+use Rattle.listing.specs.declared.pieces.Piece.{Piece}
 use Rattle.listing.proofs.WholeRecords.{joined-none, joined-join}
 use Rattle.listing.proofs.ListingLength.{listing-length}
 use Rattle.listing.proofs.RoundTrip.{read, read-is-listing, read-bytes}
@@ -64,19 +65,21 @@ module _ (piece rest : List ℕ) (n : ℕ) (e : n ≡ endedLength lineFeed piece
 
 -- ---- What a piece tells
 
-abbrev tagOf : Told → ℕ
-tagOf (malformedIn at) = 0
-tagOf nothing = 1
-tagOf (lines n) = 2
+abbrev tagOf : Piece → ℕ
+tagOf (Piece.Malformed at) = 0
+tagOf Piece.Nothing = 1
+tagOf Piece.Unended = 2
+tagOf (Piece.Lines n) = 3
 
-other : {A : Type 0} (f g : Told) → (tagOf f ≡ tagOf g → ⊥) → f ≡ g → A
+other : {A : Type 0} (f g : Piece) → (tagOf f ≡ tagOf g → ⊥) → f ≡ g → A
 other f g differ e = absurd (differ (ap tagOf e))
 
 -- The place that it tells.
-abbrev placeIn : Told → ℕ
-placeIn (malformedIn at) = at
-placeIn nothing = 0
-placeIn (lines n) = n
+abbrev placeIn : Piece → ℕ
+placeIn (Piece.Malformed at) = at
+placeIn Piece.Nothing = 0
+placeIn Piece.Unended = 0
+placeIn (Piece.Lines n) = n
 
 empty : (l : List ℕ) → length l ≡ 0 → l ≡ []
 empty [] e = refl
@@ -92,56 +95,66 @@ module _ (piece : List ℕ) where
     good : bytesOf (take end piece) ≡ spelled file
     ends : n ≡ end
 
-  passed-by : (n : ℕ) → pieceOf piece ≡ lines n → Passed n
+  passed-by : (n : ℕ) → pieceOf piece ≡ Piece.Lines n → Passed n
   unfolding pieceOf
   passed-by n is = by (bytesOf (take end piece)) refl is where
-    on : (file : List ℕ) (a b : Bool) → bytesOf (take end piece) ≡ spelled file → cond a (cond b nothing (malformedIn 0)) (lines end) ≡ lines n → Passed n
+    on : (file : List ℕ) (a b : Bool) → bytesOf (take end piece) ≡ spelled file
+        → cond a (cond b Piece.Nothing Piece.Unended) (Piece.Lines end) ≡ Piece.Lines n → Passed n
     on file true true e r = other _ _ (λ z. omega (arith, z)) r
     on file true false e r = other _ _ (λ z. omega (arith, z)) r
     on file false b e r = record { file = file; good = e; ends = ap placeIn (sym r) }
 
-    by : (x : Reading) → bytesOf (take end piece) ≡ x → pieceAs piece end x ≡ lines n → Passed n
+    by : (x : Reading) → bytesOf (take end piece) ≡ x → pieceAs piece end x ≡ Piece.Lines n → Passed n
     by (malformed at) e r = other _ _ (λ z. omega (arith, z)) r
     by (spelled file) e r = on file (eqb end 0) (eqb (length piece) 0) e r
 
-  pub lines-within : (n : ℕ) → pieceOf piece ≡ lines n → n ≤ length piece
+  pub lines-within : (n : ℕ) → pieceOf piece ≡ Piece.Lines n → n ≤ length piece
   lines-within n is = rw (passed-by n is .ends) (lines-inside piece end refl)
 
-  -- It tells of a malformed line, in lines or where none ends.
-  malformed-by : (rest : List ℕ) (at : ℕ) → pieceOf piece ≡ malformedIn at → (rest ≡ []) ⊎ (511 < length piece) → bytesOf (piece ++ rest) ≡ malformed at
+  -- It tells of a malformed line.
+  malformed-by : (rest : List ℕ) (at : ℕ) → pieceOf piece ≡ Piece.Malformed at → bytesOf (piece ++ rest) ≡ malformed at
   unfolding pieceOf
-  malformed-by rest at is enough = by (bytesOf (take end piece)) refl is where
-    on : (a b : Bool) → eqb end 0 ≡ a → eqb (length piece) 0 ≡ b → cond a (cond b nothing (malformedIn 0)) (lines end) ≡ malformedIn at
-        → bytesOf (piece ++ rest) ≡ malformed at
+  malformed-by rest at is = by (bytesOf (take end piece)) refl is where
+    on : {A : Type 0} (a b : Bool) → cond a (cond b Piece.Nothing Piece.Unended) (Piece.Lines end) ≡ Piece.Malformed at → A
+    on true true r = other _ _ (λ z. omega (arith, z)) r
+    on true false r = other _ _ (λ z. omega (arith, z)) r
+    on false b r = other _ _ (λ z. omega (arith, z)) r
+
+    by : (x : Reading) → bytesOf (take end piece) ≡ x → pieceAs piece end x ≡ Piece.Malformed at → bytesOf (piece ++ rest) ≡ malformed at
+    by (malformed p) e r = piece-stays piece rest end refl at (e ∙ ap malformed (ap placeIn r))
+    by (spelled file) e r = on (eqb end 0) (eqb (length piece) 0) r
+
+  -- It tells that it has bytes and no line ends in them.
+  unended-by : (rest : List ℕ) → pieceOf piece ≡ Piece.Unended → (rest ≡ []) ⊎ (511 < length piece) → bytesOf (piece ++ rest) ≡ malformed 0
+  unfolding pieceOf
+  unended-by rest is enough = by (bytesOf (take end piece)) is where
+    on : (a b : Bool) → eqb end 0 ≡ a → eqb (length piece) 0 ≡ b → cond a (cond b Piece.Nothing Piece.Unended) (Piece.Lines end) ≡ Piece.Unended
+        → bytesOf (piece ++ rest) ≡ malformed 0
     on true true p q r = other _ _ (λ z. omega (arith, z)) r
-    on true false p q r =
-        let z : end ≡ 0 = eqb-true end 0 p in
-        let some : length piece ≡ 0 → ⊥ = eqb-false (length piece) 0 q in
-        let there : at ≡ 0 = ap placeIn (sym r) in
-        rw there (piece-no-line piece rest end refl z (omega (arith, some)) enough)
+    on true false p q r = piece-no-line piece rest end refl (eqb-true end 0 p) (omega (arith, eqb-false (length piece) 0 q)) enough
     on false b p q r = other _ _ (λ z. omega (arith, z)) r
 
-    by : (x : Reading) → bytesOf (take end piece) ≡ x → pieceAs piece end x ≡ malformedIn at → bytesOf (piece ++ rest) ≡ malformed at
-    by (malformed p) e r = piece-stays piece rest end refl at (e ∙ ap malformed (ap placeIn r))
-    by (spelled file) e r = on (eqb end 0) (eqb (length piece) 0) refl refl r
+    by : (x : Reading) → pieceAs piece end x ≡ Piece.Unended → bytesOf (piece ++ rest) ≡ malformed 0
+    by (malformed p) r = other _ _ (λ z. omega (arith, z)) r
+    by (spelled file) r = on (eqb end 0) (eqb (length piece) 0) refl refl r
 
   -- It tells that it has no bytes.
-  pub nothing-by : pieceOf piece ≡ nothing → piece ≡ []
+  pub nothing-by : pieceOf piece ≡ Piece.Nothing → piece ≡ []
   unfolding pieceOf
   nothing-by is = by (bytesOf (take end piece)) is where
-    on : (a b : Bool) → eqb (length piece) 0 ≡ b → cond a (cond b nothing (malformedIn 0)) (lines end) ≡ nothing → piece ≡ []
+    on : (a b : Bool) → eqb (length piece) 0 ≡ b → cond a (cond b Piece.Nothing Piece.Unended) (Piece.Lines end) ≡ Piece.Nothing → piece ≡ []
     on true true q r = empty piece (eqb-true (length piece) 0 q)
     on true false q r = other _ _ (λ z. omega (arith, z)) r
     on false b q r = other _ _ (λ z. omega (arith, z)) r
 
-    by : (x : Reading) → pieceAs piece end x ≡ nothing → piece ≡ []
+    by : (x : Reading) → pieceAs piece end x ≡ Piece.Nothing → piece ≡ []
     by (malformed p) r = other _ _ (λ z. omega (arith, z)) r
     by (spelled file) r = on (eqb end 0) (eqb (length piece) 0) refl r
 
   -- The malformed line starts within it.
-  pub malformed-within : (at : ℕ) → pieceOf piece ≡ malformedIn at → at ≤ length piece
+  pub malformed-within : (at : ℕ) → pieceOf piece ≡ Piece.Malformed at → at ≤ length piece
   malformed-within at is =
-      let here : bytesOf (piece ++ []) ≡ malformed at = malformed-by [] at is (inl refl) in
+      let here : bytesOf (piece ++ []) ≡ malformed at = malformed-by [] at is in
       malformed-inside piece at (rw (append-nil piece) at here)
 
 -- ---- A listing that is longer than any accepted one
@@ -180,7 +193,7 @@ reached-start piece rest =
 
 module _ (text piece rest : List ℕ) (place : ℕ) (so : Reached text piece rest place) where
   -- Lines are passed, what follows them is kept, and more is read.
-  pub reached-next : (n : ℕ) (more left : List ℕ) → pieceOf piece ≡ lines n → rest ≡ more ++ left → Reached text (drop n piece ++ more) left (place + n)
+  pub reached-next : (n : ℕ) (more left : List ℕ) → pieceOf piece ≡ Piece.Lines n → rest ≡ more ++ left → Reached text (drop n piece ++ more) left (place + n)
   reached-next n more left is er =
       let p : Passed piece n = passed-by piece n is in
       let x : Reading = bytesOf (drop n piece ++ rest) in
@@ -197,14 +210,21 @@ module _ (text piece rest : List ℕ) (place : ℕ) (so : Reached text piece res
             ∙ ap (λ (t : List ℕ). joined (so .file ++ p .file) (moved (place + n) (bytesOf t))) goes;
       }
 
-  -- A malformed line is told, in a piece that fills its buffer or with which the text ends: it is that of the whole text.
-  pub told-malformed : (at : ℕ) → pieceOf piece ≡ malformedIn at → (rest ≡ []) ⊎ (511 < length piece)
-      → (output : List ℕ) → readOf text output ≡ written (refusal malformedLine (place + at)) output
+  -- A malformed line that a piece tells is that of the whole text.
+  pub told-malformed : (at : ℕ) → pieceOf piece ≡ Piece.Malformed at → (output : List ℕ) → readOf text output ≡ written (refusal malformedLine (place + at)) output
   unfolding readOf
-  told-malformed at is enough output = rw (so .so-far, malformed-by piece rest at is enough)
+  told-malformed at is output = rw (so .so-far, malformed-by piece rest at is)
+
+  -- Bytes in which no line ends begin a malformed one, if the text ends with them or a well-formed line has not as many.
+  pub told-unended : pieceOf piece ≡ Piece.Unended → (rest ≡ []) ⊎ (511 < length piece)
+      → (output : List ℕ) → readOf text output ≡ written (refusal malformedLine place) output
+  unfolding readOf
+  told-unended is enough output =
+      let here : place + 0 ≡ place = omega arith in
+      rw (so .so-far, unended-by piece rest is enough, here)
 
   -- Nothing is left of a text that is longer than any listing.
-  pub told-too-long : pieceOf piece ≡ nothing → rest ≡ [] → 262144 < length text → (output : List ℕ) → readOf text output ≡ written (refusal tooLong 0) output
+  pub told-too-long : pieceOf piece ≡ Piece.Nothing → rest ≡ [] → 262144 < length text → (output : List ℕ) → readOf text output ≡ written (refusal tooLong 0) output
   told-too-long is er long output =
       too-long-told text (so .file ++ [])
       (so .so-far ∙ rw (nothing-by piece is, er, no-bytes))

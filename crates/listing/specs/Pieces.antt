@@ -9,23 +9,11 @@ use Rattle.text.specs.Parts.{lineFeed, endedLength}
 use Rattle.listing.specs.Reading.{Reading, spelled, malformed, bytesOf}
 use Rattle.listing.specs.declared.pieces.Piece.{Piece}
 
--- A malformed line that starts at a place, no bytes, or lines that are well formed and end at a place.
-pub data Told : Type 0 where
-  malformedIn : ℕ → Told
-  nothing : Told
-  lines : ℕ → Told
+-- The lines that end in a piece end at n, and come to this. Where none ends, there are no bytes, or those of a line that may go on.
+abbrev pub pieceAs : List ℕ → ℕ → Reading → Piece
+pieceAs piece n (malformed at) = Piece.Malformed at
+pieceAs piece n (spelled file) = cond (eqb n 0) (cond (eqb (length piece) 0) Piece.Nothing Piece.Unended) (Piece.Lines n)
 
-abbrev pub pieceTold : Piece → Told
-pieceTold (Piece.Malformed at) = malformedIn at
-pieceTold Piece.Nothing = nothing
-pieceTold (Piece.Lines n) = lines n
-
--- The lines end at n. Where none ends, the bytes begin a line without a line feed: it is malformed if they are the last of the text, or
--- more than a well-formed line has (511 are).
-abbrev pub pieceAs : List ℕ → ℕ → Reading → Told
-pieceAs piece n (malformed at) = malformedIn at
-pieceAs piece n (spelled file) = cond (eqb n 0) (cond (eqb (length piece) 0) nothing (malformedIn 0)) (lines n)
-
--- The lines that end in a piece; what follows the last line feed is looked at only where no line ends.
-unfoldable pub pieceOf : List ℕ → Told
+-- What follows the last line feed is not looked at.
+unfoldable pub pieceOf : List ℕ → Piece
 pieceOf piece = pieceAs piece (endedLength lineFeed piece) (bytesOf (take (endedLength lineFeed piece) piece))

@@ -5,7 +5,6 @@ use format::refusals;
 use readers::all_bytes;
 use reading::Found;
 use text::output::Filled;
-use text::output::OUTPUT_SHORT;
 use text::output::deliver;
 ghost use mathlib.Core.Path.{_≡_};
 ghost use mathlib.Core.List.{List};
@@ -37,19 +36,14 @@ pub fn print(file: &[u8], output: &mut [u8]) -> Filled
     filled
 }
 
-// The listing is put twice: into no byte, to learn its length, and then into the output.
+// The program's own refusal, or its listing.
 fn deliver_listing(file: &[u8], output: &mut [u8]) -> Filled
     ensures { λ r. ⌜ written (answered r) (now (output .exit)) ≡ printOf (now (file .entry)) (now (output .entry)) ⌝ }
 {
     if let Verdict::Refused(number, place) = checker::check(file) {
         return Filled::Refused(number, place as usize);
     }
-    let mut none = [0u8; 0];
-    let length = printing::put_listing(file, &mut none);
-    if output.len() < length {
-        return Filled::Refused(OUTPUT_SHORT, 0);
-    }
-    Filled::Wrote(printing::put_listing(file, output))
+    printing::deliver_lines(file, output)
 }
 
 // Writes the file that a listing gives, or nothing where a line is malformed, the program is refused or the output is too short.

@@ -4,29 +4,30 @@ use super::reading::spell;
 use text::parts::LINE_FEED;
 use text::parts::ended_length;
 ghost use mathlib.Core.Path.{_≡_};
-ghost use Rattle.listing.specs.Pieces.{pieceTold, pieceOf};
+ghost use Rattle.listing.specs.Pieces.{pieceOf};
 
 // What a piece tells.
 pub enum Piece {
-    // A malformed line starts at a place.
+    // The first malformed line that ends in it starts at a place.
     Malformed(usize),
     // There are no bytes.
     Nothing,
-    // The lines that end in the piece are well formed, and end at a place.
+    // There are bytes, and no line ends in them.
+    Unended,
+    // The lines that end in it are well formed, and end at a place.
     Lines(usize),
 }
 
-// Reads the lines that end in a piece. Where none does, its bytes are told to be malformed: that is so of a text's last ones, and of more
-// than 511, which no well-formed line has.
+// Reads the lines that end in a piece.
 pub fn read_piece(piece: &[u8]) -> Piece
-    ensures { λ r. ⌜ pieceTold r ≡ pieceOf (now (piece .entry)) ⌝ }
+    ensures { λ r. ⌜ r ≡ pieceOf (now (piece .entry)) ⌝ }
 {
     let end = ended_length(piece, LINE_FEED);
     if end == 0 {
         return if piece.len() == 0 {
             Piece::Nothing
         } else {
-            Piece::Malformed(0)
+            Piece::Unended
         };
     }
     let mut file = [0u8; 65536];

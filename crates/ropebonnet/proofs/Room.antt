@@ -19,10 +19,10 @@ use Rattle.listing.specs.Listing.{listingOf}
 use Rattle.listing.specs.Reading.{spelled, bytesOf}
 use Rattle.listing.specs.Calls.{deliveredIf, printOf, readOf}
 use Rattle.listing.proofs.ListingLength.{listing-length}
-use Rattle.answers.specs.Words.{WrittenInWords, inWord, words, toldWords, afterFilling, writtenInWords}
+use Rattle.answers.specs.Words.{FilledOutput, inWord, words, toldWords, afterFilling, writtenInWords}
 
 -- What a host holds after a call that wrote these bytes.
-abbrev pub wroteAll : List ℕ → List ℕ → WrittenInWords
+abbrev pub wroteAll : List ℕ → List ℕ → FilledOutput
 wroteAll bytes output = afterFilling (words 0 (length bytes) 0) (sets output 0 bytes)
 
 -- "the program's own, then 31": of a program nothing but 31 is left, and not that where the output is as long as the text.

@@ -1,7 +1,7 @@
 // A listing that is longer than that of any program file. It is refused as the documents say, with 30 at its first malformed line, or,
-// where there is none, with 1 at 0, the file that it gives being too long. So it is read on in pieces. By `turn-told` of proofs/Turns.antt
-// the refusal of a turn is that of the whole listing; that the loop takes the turns as that law has them no contract can say, since none
-// says what a file holds.
+// where there is none, with 1 at 0, the file that it gives being too long. So it is read on in pieces. By `turn-next` and `turn-told` of
+// proofs/Turns.antt the turns' refusal is that of the whole listing, if each piece fills the buffer or the listing ends with it; that
+// the loop reads so no contract can say, since none says what a file holds.
 use format::refusals::MALFORMED_LINE;
 use format::refusals::TOO_LONG;
 use listing::Piece;
@@ -10,7 +10,7 @@ ghost use mathlib.Core.Path.{_≡_};
 ghost use Prim.Native.Nat.{_≤_, _+_, _-_};
 ghost use lib.ListN.{length, take, drop};
 ghost use Rattle.listing.specs.Pieces.{pieceOf};
-ghost use Rattle.tgsi_read.specs.Turns.{turnOf};
+ghost use Rattle.tgsi_read.specs.Inner.Turns.{turnOf};
 
 // More pieces than a file of 2^63 bytes has, each with at most 511 bytes of a cut line. A proved loop ends, and nothing says that a file
 // does.
@@ -40,6 +40,11 @@ fn take_turn(text: &mut [u8], count: usize, place: u64) -> Turn
         Piece::Nothing => Turn {
             number: TOO_LONG,
             place: 0,
+            passed: 0,
+        },
+        Piece::Unended => Turn {
+            number: MALFORMED_LINE,
+            place,
             passed: 0,
         },
         Piece::Lines(n) => {

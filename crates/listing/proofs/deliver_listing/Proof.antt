@@ -1,7 +1,7 @@
--- Refused, too long for the output, or put into it.
+-- Refused, or delivered.
 -- Assumes nothing.
 use borrow.Author.Needs.{needs}
-use Rattle.listing.proofs.Delivering.{file-fits, print-refused, print-short, print-done}
+use Rattle.listing.proofs.Delivering.{file-fits, print-refused, print-done}
 use Rattle.listing.proofs.deliver_listing.Statement.{statement}
 use Rattle.listing.proofs.deliver_listing.Tie as tie
 
@@ -14,9 +14,6 @@ deliver-listing-spec =
     (search needs)
     (λ c. search (needs, print-refused))
     (search needs)
-    (search needs)
-    (λ c κs. search (needs, file-fits))
-    (λ c. search (needs, print-short))
     (λ c κs. search (needs, file-fits))
     (search needs)
     (λ c. search (needs, print-done)))

@@ -2,7 +2,8 @@
 -- Assumes nothing.
 use native.Mathlib.Omega.{arith}
 use borrow.Author.Needs.{needs}
-use Rattle.tgsi_read.proofs.Turns.{piece-counted, malformed-fits, due-malformed, due-nothing, due-lines, passed-within, rest-kept, all-kept}
+use Rattle.listing.specs.declared.pieces.Piece.{Piece}
+use Rattle.tgsi_read.proofs.Turns.{piece-counted, due, due-at, malformed-fits, passed-within, rest-kept, all-kept}
 use Rattle.tgsi_read.proofs.pieces.take_turn.Statement.{statement}
 use Rattle.tgsi_read.proofs.pieces.take_turn.Tie as tie
 
@@ -18,11 +19,14 @@ take-turn-spec =
     (search needs)
     (search needs)
     (search needs)
+    (search needs)
     (λ c. search (needs, piece-counted))
     (λ c κs. search needs)
     (search needs)
-    (λ c. (search (needs, due-malformed), (search (needs, all-kept), omega arith)))
+    (λ c. (search (needs, due-at Piece.Malformed), (search (needs, all-kept), omega arith)))
     (search needs)
-    (λ c. (search (needs, due-nothing), (search (needs, all-kept), omega arith)))
+    (λ c. (search (needs, due Piece.Nothing), (search (needs, all-kept), omega arith)))
     (search needs)
-    (λ c. (search (needs, due-lines), (search (needs, rest-kept), search (needs, passed-within)))))
+    (λ c. (search (needs, due Piece.Unended), (search (needs, all-kept), omega arith)))
+    (search needs)
+    (λ c. (search (needs, due-at Piece.Lines), (search (needs, rest-kept), search (needs, passed-within)))))
