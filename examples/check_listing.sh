@@ -160,7 +160,7 @@ long_file
 long_malformed 262144
 { thirteens 20000; printf '%05000d\n' 7; thirteens 100; } >"$room/listing"
 long_malformed 260000
-# Through a pipe that pauses five bytes into the second piece, well formed and not.
+# Through a pipe that pauses five bytes after the first piece, well formed and not.
 slowly() { { head -c 262150 "$1"; sleep 0.1; tail -c +262151 "$1"; } | "$read" /dev/stdin "$room/none"; }
 gives 2 "" "refused 1 0
 file over 65,536 bytes" slowly "$room/mixed"

@@ -195,8 +195,8 @@ struct ropebonnet_answer ropebonnet_print(const uint8_t *file, size_t file_lengt
                                           size_t output_length);
 
 /* Reads a listing and writes the program file that it gives into `output`; ROPEBONNET_LONGEST_FILE bytes suffice for
- * every one. A line is malformed if it is not, in the form above, the numbers of a record, each small enough for its field,
- * and so is a last line without its line feed. The listing of the file that was read is the one that was lent.
+ * every one. A line is malformed if it is not, in the form above, the numbers of a record, each small enough for its
+ * field, and so is a last line without its line feed. The listing of the file that was read is the one that was lent.
  */
 struct ropebonnet_answer ropebonnet_read(const uint8_t *listing, size_t listing_length, uint8_t *output,
                                          size_t output_length);

@@ -14,7 +14,7 @@ use Rattle.format.specs.Records.{longest}
 use Rattle.format.specs.Refusals.{tooLong, malformedLine}
 use Rattle.checker.specs.Check.{refused, checkOf}
 use Rattle.text.specs.Output.{refusal, written}
-use Rattle.text.specs.Parts.{lineFeed, first, endedLength}
+use Rattle.text.specs.Parts.{lineFeed, endedLength}
 use Rattle.text.proofs.Ends.{Last, ended}
 use Rattle.listing.specs.Reading.{Reading, spelled, malformed, joined, bytesOf}
 use Rattle.listing.specs.Calls.{readOf}
@@ -22,7 +22,7 @@ use Rattle.listing.specs.Pieces.{pieceAs, pieceOf}
 use Rattle.listing.specs.declared.pieces.Piece.{Piece}
 use Rattle.listing.proofs.WholeRecords.{joined-none, joined-join}
 use Rattle.listing.proofs.ListingLength.{listing-length}
-use Rattle.listing.proofs.RoundTrip.{read, read-is-listing, read-bytes}
+use Rattle.listing.proofs.RoundTrip.{read-is-listing, read-bytes}
 use Rattle.listing.proofs.Fronts.{no-bytes, lines-inside, lines-counted}
 use Rattle.listing.proofs.Apart.{moved, moved-join, after-lines, not-malformed, malformed-stays, no-line-feed, malformed-inside}
 

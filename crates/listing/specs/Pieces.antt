@@ -14,6 +14,6 @@ abbrev pub pieceAs : List ℕ → ℕ → Reading → Piece
 pieceAs piece n (malformed at) = Piece.Malformed at
 pieceAs piece n (spelled file) = cond (eqb n 0) (cond (eqb (length piece) 0) Piece.Nothing Piece.Unended) (Piece.Lines n)
 
--- What follows the last line feed is not looked at.
+-- What follows the last line feed is not read.
 unfoldable pub pieceOf : List ℕ → Piece
 pieceOf piece = pieceAs piece (endedLength lineFeed piece) (bytesOf (take (endedLength lineFeed piece) piece))

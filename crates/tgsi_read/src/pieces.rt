@@ -1,7 +1,7 @@
 // A listing that is longer than that of any program file. It is refused as the documents say, with 30 at its first malformed line, or,
-// where there is none, with 1 at 0, the file that it gives being too long. So it is read on in pieces. By `turn-next` and `turn-told` of
-// proofs/Turns.antt the turns' refusal is that of the whole listing, if each piece fills the buffer or the listing ends with it; that
-// the loop reads so no contract can say, since none says what a file holds.
+// where there is none, with 1 at 0, the file that it gives being too long. So it is read on in pieces. By `reached-start` (listing),
+// `turn-next` and `turn-told` (proofs/Turns.antt) the turns' refusal is that of the whole listing, if each piece fills the buffer or the
+// listing ends with it; that the loop reads so no contract can say, since none says what a file holds.
 use format::refusals::MALFORMED_LINE;
 use format::refusals::TOO_LONG;
 use listing::Piece;
@@ -16,7 +16,7 @@ ghost use Rattle.tgsi_read.specs.Inner.Turns.{turnOf};
 // does.
 const TURNS: u64 = 36000000000000;
 
-// The number of the refusal that is due, and its place in the listing; or 0, and how many bytes are passed.
+// The number of the refusal that is due, and its place; or 0, and how many bytes are passed.
 struct Turn {
     number: u8,
     place: u64,
