@@ -23,7 +23,7 @@
  *
  * Time. A run takes as long as its budget lets it: 5 to 40 nanoseconds a step, and a SWITCH some 3 more for each label
  * that it compares. At that the largest budget comes to 20 seconds of an empty loop, and to over an hour of a SWITCH
- * with 1,000 labels. A read takes as long as its listing goes on: up to 10 nanoseconds a byte, so 3 milliseconds for
+ * with 1,000 labels. A read takes as long as its listing goes on: up to 14 nanoseconds a byte, so 4 milliseconds for
  * one of ROPEBONNET_LONGEST_LISTING bytes. Every other call, and a run up to its first step, takes under a millisecond.
  * This was measured on one machine, with the largest files among others, and is not proved; proved is that a run
  * carries out no more steps than its budget.
