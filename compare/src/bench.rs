@@ -16,7 +16,7 @@ const PROGRAMS: [(&str, &str); 3] = [
     ("bench3", include_str!("../vectors/bench3.hex")),
 ];
 
-/// The programs count to IN[0].x; so many rounds take over 50 ms.
+/// Each program counts to IN[0].x; so many rounds take over 50 ms.
 const ROUNDS: u32 = 800_000;
 const REPEATS: usize = 7;
 /// Document 01's case 12: a run of two steps, nearly all of it check, prepare and clearing.
@@ -85,8 +85,7 @@ fn bench_program(runners: &[&dyn Runner], file: &[u8]) -> bool {
 pub fn bench(product: Option<&dyn Runner>, second: &dyn Runner, plain: &dyn Runner) -> bool {
     let mut same = true;
     let runners: Vec<&dyn Runner> = [plain].into_iter().chain(product).chain([second]).collect();
-    for (name, text) in PROGRAMS {
-        let file = from_hex(text);
+    for (name, file) in programs() {
         println!("{name}: {} bytes, {} steps", file.len(), run(plain, &file).0.first);
         same &= bench_program(&runners, &file);
     }
@@ -127,6 +126,47 @@ const LONGEST_LISTING: &str = "longest listing";
 /// Whether a call was done, and within two milliseconds.
 fn is_quick(answer: Answer, microseconds: f64) -> bool {
     answer.status == DONE && microseconds <= 2000.0
+}
+
+/// The programs that are stepped through: the recorded ones and the reversals.
+fn programs() -> Vec<(&'static str, Vec<u8>)> {
+    let recorded = PROGRAMS.map(|(name, text)| (name, from_hex(text)));
+    recorded.into_iter().chain([("mostly BREV", reversals())]).collect()
+}
+
+/// A program that is mostly BREV: of the 36 steps of a round 28 reverse all four components.
+fn reversals() -> Vec<u8> {
+    const COUNT: u16 = 0;
+    const ENOUGH: u16 = 1;
+    const HASH: u16 = 2;
+    const TURNED: u16 = 3;
+    let x = |file, register| write::source(file, register, 0, 0);
+    let one = |kind, to, sources: &[_]| write::instruction(kind, write::destination(TEMP, to, 1), sources);
+    let all = |kind, to, sources: &[_]| write::instruction(kind, write::destination(TEMP, to, 15), sources);
+    let reverse = |to, from| all(BREV, to, &[write::direct(TEMP, from)]);
+    let there_and_back = [reverse(TURNED, HASH), reverse(HASH, TURNED)].concat();
+    let mixed = [
+        there_and_back.repeat(3),
+        reverse(TURNED, HASH),
+        all(UADD, HASH, &[write::direct(TEMP, TURNED), write::direct(IMM, 0)]),
+    ];
+    let parts = [
+        write::declaration(IN, 0, 0),
+        write::declaration(OUT, 0, 0),
+        write::declaration(TEMP, COUNT, TURNED),
+        write::immediate([1, 2, 3, 5]),
+        write::mark(BGNLOOP),
+        one(USGE, ENOUGH, &[x(TEMP, COUNT), x(IN, 0)]),
+        write::control(UIF, x(TEMP, ENOUGH)),
+        write::mark(BRK),
+        write::mark(ENDIF),
+        one(UADD, COUNT, &[x(TEMP, COUNT), x(IMM, 0)]),
+        mixed.concat().repeat(4),
+        write::mark(ENDLOOP),
+        write::instruction(MOV, write::destination(OUT, 0, 15), &[write::direct(TEMP, HASH)]),
+        write::mark(END),
+    ];
+    parts.concat()
 }
 
 /// Every register of every file by a declaration of its own, and 256 immediates of words that count up from one.

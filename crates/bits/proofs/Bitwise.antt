@@ -1,13 +1,13 @@
--- What a reader wants to know of single bits: those of AND, OR, XOR and NOT, of a sum of powers of two, and of a half.
+-- What a reader wants to know of single bits: those of AND, OR, XOR and NOT, of a number moved down or up, and of a sum of powers of two.
 use Rattle.words.specs.Word.{bit, compl, sum}
 use Rattle.words.proofs.Numbers.{below-or-not, complement-shr}
 use Prim.Native.Nat.{_%_, _*_, _+_, _-_, _/_, _<_, _^_, _≤_, max, min, suc, zero, ℕ}
 use mathlib.Core.Path.{_∙_, _≡_, ap, ap₂, refl, sym}
 use mathlib.Core.Logic.{⊎-elim}
 use native.Mathlib.Omega.{arith}
-use native.Mathlib.Numerals.{one-add}
-use native.Mathlib.Nat.{add-assoc, add-comm, add-mul-div-right, add-mul-mod-self-right, add-zero, div-eq-of-lt, div-eq-of-lt-le, div-one, mod-eq-of-lt, mod-lt, mul-assoc, not-suc-le-zero, one-mul, pow-suc, zero-add, zero-lt-suc}
-use lib.Pow.{high, pow-add, pow-pos, shr-lt, shr-shr}
+use native.Mathlib.Numerals.{add-one, one-add}
+use native.Mathlib.Nat.{add-assoc, add-comm, add-mul-div-right, add-mul-mod-self-right, add-zero, div-eq-of-lt, div-eq-of-lt-le, div-one, mod-eq-of-lt, mod-lt, mod-one, mul-assoc, not-suc-le-zero, one-mul, pow-suc, zero-add, zero-lt-suc}
+use lib.Pow.{high, mod-pow-add, pow-add, pow-pos, shl-shr, shr-lt, shr-shr}
 use lib.Arith.{digits-lt}
 use lib.Bits.{and-mod, and-shr, bitAnd, bitOr, bitXor, or-mod, or-shr, xor-mod, xor-shr}
 
@@ -62,8 +62,24 @@ not-bit w a i l h =
 pub bit-zero : (a : ℕ) → bit a 0 ≡ a % 2
 bit-zero a = ap (λ (n : ℕ). n % 2) (div-one a)
 
+-- those of a number moved down or up by k places
+
+pub down-bit : (a k i : ℕ) → bit (a / 2 ^ k) i ≡ bit a (i + k)
+down-bit a k i = ap (λ (n : ℕ). n % 2) (shr-shr a k i) ∙ ap (bit a) (add-comm k i)
+
+pub up-bit : (a k i : ℕ) → k ≤ i → bit (a * 2 ^ k) i ≡ bit a (i - k)
+up-bit a k i h =
+    let e : i ≡ i - k + k = omega arith in
+    ap (bit (a * 2 ^ k)) e ∙ sym (down-bit (a * 2 ^ k) k (i - k)) ∙ ap (λ (n : ℕ). bit n (i - k)) (shl-shr a k)
+
+pub up-low : (a k i : ℕ) → i < k → bit (a * 2 ^ k) i ≡ 0
+up-low a k i h =
+    let e : k ≡ k - i - 1 + 1 + i = omega arith in
+    let p : a * 2 ^ k ≡ a * 2 ^ (k - i - 1) * 2 * 2 ^ i = ap (λ (j : ℕ). a * 2 ^ j) e ∙ simp (pow-add, mul-assoc) in
+    ap (λ (n : ℕ). bit n i) p ∙ ap (λ (n : ℕ). n % 2) (shl-shr (a * 2 ^ (k - i - 1) * 2) i) ∙ (omega arith)
+
 pub bit-suc : (a i : ℕ) → bit a (suc i) ≡ bit (a / 2) i
-bit-suc a i = ap (λ (n : ℕ). a / 2 ^ n % 2) (sym (one-add i)) ∙ ap (λ (n : ℕ). n % 2) (sym (shr-shr a 1 i))
+bit-suc a i = ap (bit a) (sym (add-one i)) ∙ sym (down-bit a 1 i)
 
 -- the bit of a number at its highest place, and above it
 pub bit-top : (a i : ℕ) → 2 ^ i ≤ a → a < 2 ^ suc i → bit a i ≡ 1
@@ -84,6 +100,18 @@ unfolding sum
 sum-front zero f = zero-add (f 0) ∙ sym (add-zero (f 0))
 sum-front (suc n) f =
     ap (λ (s : ℕ). s + f (suc n)) (sum-front n f) ∙ add-assoc (f 0) (sum n (λ i. f (suc i))) (f (suc n))
+
+-- a number is made of its bits
+made-of-bits : (n a : ℕ) → sum n (λ i. bit a i * 2 ^ i) ≡ a % 2 ^ n
+unfolding sum
+made-of-bits zero a = sym (mod-one a)
+made-of-bits (suc n) a =
+    ap (λ (s : ℕ). s + bit a n * 2 ^ n) (made-of-bits n a) ∙ add-comm (a % 2 ^ n) (bit a n * 2 ^ n) ∙ sym (mod-pow-add a 1 n)
+    ∙ ap (λ (k : ℕ). a % 2 ^ k) (one-add n)
+
+pub made-of : (n a : ℕ) (f : ℕ → ℕ) → a < 2 ^ n → ((i : ℕ) → i < n → bit a i ≡ f i) → a ≡ sum n (λ i. f i * 2 ^ i)
+made-of n a f l h =
+    sym (made-of-bits n a ∙ mod-eq-of-lt l) ∙ sum-same n (λ i. bit a i * 2 ^ i) (λ i. f i * 2 ^ i) (λ i k. ap (λ (b : ℕ). b * 2 ^ i) (h i k))
 
 -- a number made of bits has those bits
 module _ (f : ℕ → ℕ) (two : (i : ℕ) → f i < 2) where

@@ -1,4 +1,5 @@
 pub mod Bitwise
 pub mod WordBits
 pub mod Counts
+pub mod Swaps
 pub mod Reversal

@@ -2,18 +2,18 @@
 use Rattle.words.specs.Word.{bit, isSet, bitIn}
 use Rattle.words.proofs.Choices.{or-comm}
 use Rattle.words.proofs.Numbers.{below-or-not}
-use Rattle.bits.proofs.Bitwise.{by-bits, or-bit, bit-top, bit-above}
-use Prim.Native.Nat.{_%_, _+_, _-_, _/_, _<_, _^_, _≤_, max, suc, zero, ℕ}
+use Rattle.bits.proofs.Bitwise.{by-bits, or-bit, bit-top, bit-above, up-low}
+use Prim.Native.Nat.{_%_, _/_, _<_, _^_, _≤_, max, suc, zero, ℕ}
 use mathlib.Core.Path.{_∙_, _≡_, ap, refl, sym}
 use mathlib.Core.Bool.{Bool, true, false, _||_}
 use mathlib.Core.List.{List}
 use mathlib.Core.Logic.{⊎-elim}
 use native.Mathlib.Omega.{arith}
-use native.Mathlib.Nat.{eq-or-lt-of-le, pow-suc, zero-div}
+use native.Mathlib.Nat.{eq-or-lt-of-le, one-mul, zero-div}
 use lib.Dec.{eqb}
 use lib.Bits.{bitOr}
 use lib.ListN.{length, getD, set, replicate, List·getD-eq-default}
-use lib.Pow.{pow-add, pow-lt, shl-shr}
+use lib.Pow.{pow-lt}
 use lib.Seq.{getD-set-same, getD-set-other}
 use borrow.Author.Tests.{eq-eqb, ne-eqb, eqb-true, eqb-false}
 
@@ -25,14 +25,11 @@ or-set a b i =
     ∙ by-bits a b i (λ x y. eqb (max x y) 1 ≡ (eqb x 1 || eqb y 1)) refl refl refl refl
 
 -- 2 ^ k has the one bit k.
-pow-below : (j m : ℕ) → bit (2 ^ (suc m + j)) j ≡ 0
-pow-below j m = rw (pow-add 2 (suc m) j, shl-shr (2 ^ suc m) j, pow-suc 2 m) (omega arith)
-
 pow-set : (k j : ℕ) → isSet (2 ^ k) j ≡ eqb j k
 pow-set k j =
     ⊎-elim
-    (λ (h : j < k). let e : k ≡ suc (k - j - 1) + j = omega arith in
-    ap (λ (n : ℕ). eqb n 1) (ap (λ (n : ℕ). bit (2 ^ n) j) e ∙ pow-below j (k - j - 1)) ∙ sym (ne-eqb j k (λ q. omega arith)))
+    (λ (h : j < k).
+    ap (λ (n : ℕ). eqb n 1) (ap (λ (n : ℕ). bit n j) (sym (one-mul (2 ^ k))) ∙ up-low 1 k j h) ∙ sym (ne-eqb j k (λ q. omega arith)))
     (λ (l : k ≤ j). ⊎-elim
     (λ e. rw (← e) (ap (λ (n : ℕ). eqb n 1) (bit-top (2 ^ k) k (omega arith) (pow-lt (omega arith))) ∙ sym (eq-eqb k k refl)))
     (λ h. ap (λ (n : ℕ). eqb n 1) (bit-above (2 ^ k) j (pow-lt h)) ∙ sym (ne-eqb j k (λ q. omega arith)))

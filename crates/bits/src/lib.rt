@@ -2,8 +2,10 @@
 // shifts in a module of their own. Of crate `words`, specs/Word.antt says what each returns.
 use words::sums::LEAST32;
 ghost use mathlib.Core.Path.{_≡_};
+ghost use Prim.Native.Nat.{_*_, _^_, _<_};
 ghost use lib.Bits.{bitAnd, bitOr, bitXor};
 ghost use Rattle.words.specs.Word.{bitIn, compl, popc, lsb, umsb, imsb, brev};
+ghost use Rattle.bits.specs.Inner.Swaps.{swapped};
 
 pub mod shifts; // SHL USHR ISHR
 
@@ -71,17 +73,23 @@ pub fn imsb32(a: u32) -> u32
     if a < LEAST32 { umsb32(a) } else { umsb32(!a) }
 }
 
-// BREV. The bits are taken from the bottom of `left` and put at the bottom of `done`.
+// BREV. Halves change places, then the quarters of each half, and so on down to single bits.
 pub fn brev32(a: u32) -> u32
     ensures { λ r. ⌜ r ≡ brev 32 a ⌝ }
 {
-    let mut left = a;
-    let mut done = 0u32;
-    for i in 0..32u32 {
-        done = done * 2 + left % 2;
-        left = left / 2;
-    }
-    done
+    let halves = swap(a, 16, 0x0000FFFF);
+    let quarters = swap(halves, 8, 0x00FF00FF);
+    let eighths = swap(quarters, 4, 0x0F0F0F0F);
+    let sixteenths = swap(eighths, 2, 0x33333333);
+    swap(sixteenths, 1, 0x55555555)
+}
+
+// The bits of `low` change places with those `distance` above them, which must be all the others.
+fn swap(a: u32, distance: u32, low: u32) -> u32
+    requires { ⌜ (distance < 32) × (low * 2 ^ distance ≡ compl 32 low) ⌝ }
+    ensures { λ r. ⌜ r ≡ swapped 32 a distance low ⌝ }
+{
+    ((a >> distance) & low) | ((a & low) << distance)
 }
 
 // Whether bit i of words of 32 bits is set.

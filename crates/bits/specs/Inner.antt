@@ -1,0 +1,3 @@
+-- What functions and laws of the library promise each other: no public contract cites it.
+-- Assumes nothing.
+pub mod Swaps
