@@ -6,7 +6,7 @@ use mathlib.Core.Path.{_∙_, _≡_, ap, ap₂, refl, sym}
 use mathlib.Core.Logic.{⊎-elim}
 use native.Mathlib.Omega.{arith}
 use native.Mathlib.Numerals.{add-one, one-add}
-use native.Mathlib.Nat.{add-assoc, add-comm, add-mul-div-right, add-mul-mod-self-right, add-zero, div-eq-of-lt, div-eq-of-lt-le, div-one, mod-eq-of-lt, mod-lt, mod-one, mul-assoc, not-suc-le-zero, one-mul, pow-suc, zero-add, zero-lt-suc}
+use native.Mathlib.Nat.{add-assoc, add-comm, add-mul-div-right, add-mul-mod-self-right, add-zero, div-eq-of-lt, div-eq-of-lt-le, div-one, mod-eq-of-lt, mod-lt, mod-one, mul-assoc, not-suc-le-zero, one-mul, pow-suc, zero-add, zero-div, zero-lt-suc}
 use lib.Pow.{high, mod-pow-add, pow-add, pow-pos, shl-shr, shr-lt, shr-shr}
 use lib.Arith.{digits-lt}
 use lib.Bits.{and-mod, and-shr, bitAnd, bitOr, bitXor, or-mod, or-shr, xor-mod, xor-shr}
@@ -67,16 +67,21 @@ bit-zero a = ap (λ (n : ℕ). n % 2) (div-one a)
 pub down-bit : (a k i : ℕ) → bit (a / 2 ^ k) i ≡ bit a (i + k)
 down-bit a k i = ap (λ (n : ℕ). n % 2) (shr-shr a k i) ∙ ap (bit a) (add-comm k i)
 
-pub up-bit : (a k i : ℕ) → k ≤ i → bit (a * 2 ^ k) i ≡ bit a (i - k)
-up-bit a k i h =
-    let e : i ≡ i - k + k = omega arith in
-    ap (bit (a * 2 ^ k)) e ∙ sym (down-bit (a * 2 ^ k) k (i - k)) ∙ ap (λ (n : ℕ). bit n (i - k)) (shl-shr a k)
+pub up-bit : (a k i : ℕ) → bit (a * 2 ^ k) (i + k) ≡ bit a i
+up-bit a k i = sym (down-bit (a * 2 ^ k) k i) ∙ ap (λ (n : ℕ). bit n i) (shl-shr a k)
+
+-- under what was moved up, nothing changes
+pub under-bit : (a b k i : ℕ) → i < k → bit (a + b * 2 ^ k) i ≡ bit a i
+under-bit a b k i h =
+    let e : k ≡ k - i - 1 + 1 + i = omega arith in
+    let p : b * 2 ^ k ≡ b * 2 ^ (k - i - 1) * 2 * 2 ^ i = ap (λ (j : ℕ). b * 2 ^ j) e ∙ simp (pow-add, mul-assoc) in
+    ap (λ (n : ℕ). bit (a + n) i) p
+    ∙ ap (λ (n : ℕ). n % 2) (add-mul-div-right a (b * 2 ^ (k - i - 1) * 2) (pow-pos i))
+    ∙ add-mul-mod-self-right (a / 2 ^ i) (b * 2 ^ (k - i - 1)) 2
 
 pub up-low : (a k i : ℕ) → i < k → bit (a * 2 ^ k) i ≡ 0
 up-low a k i h =
-    let e : k ≡ k - i - 1 + 1 + i = omega arith in
-    let p : a * 2 ^ k ≡ a * 2 ^ (k - i - 1) * 2 * 2 ^ i = ap (λ (j : ℕ). a * 2 ^ j) e ∙ simp (pow-add, mul-assoc) in
-    ap (λ (n : ℕ). bit n i) p ∙ ap (λ (n : ℕ). n % 2) (shl-shr (a * 2 ^ (k - i - 1) * 2) i) ∙ (omega arith)
+    ap (λ (n : ℕ). bit n i) (sym (zero-add (a * 2 ^ k))) ∙ under-bit 0 a k i h ∙ ap (λ (n : ℕ). n % 2) (zero-div (2 ^ i))
 
 pub bit-suc : (a i : ℕ) → bit a (suc i) ≡ bit (a / 2) i
 bit-suc a i = ap (bit a) (sym (add-one i)) ∙ sym (down-bit a 1 i)
@@ -123,19 +128,11 @@ module _ (f : ℕ → ℕ) (two : (i : ℕ) → f i < 2) where
   pub made-bit : (n j : ℕ) → j < n → bit (sum n (λ i. f i * 2 ^ i)) j ≡ f j
   unfolding sum
   made-bit zero j h = absurd (not-suc-le-zero h)
-  made-bit (suc n) j h = ⊎-elim (λ (l : j < n). lower l (made-bit n j l)) (λ (l : n ≤ j). upper (omega arith)) (below-or-not j n)
+  made-bit (suc n) j h =
+      ⊎-elim (λ (l : j < n). under-bit (sum n (λ i. f i * 2 ^ i)) (f n) n j l ∙ made-bit n j l) (λ (l : n ≤ j). upper (omega arith)) (below-or-not j n)
     where
       upper : j ≡ n → bit (sum n (λ i. f i * 2 ^ i) + f n * 2 ^ n) j ≡ f j
       upper e =
           ap (λ (k : ℕ). (sum n (λ i. f i * 2 ^ i) + f n * 2 ^ n) / 2 ^ k % 2) e
           ∙ ap (λ (k : ℕ). k / 2 ^ n % 2) (add-comm (sum n (λ i. f i * 2 ^ i)) (f n * 2 ^ n))
           ∙ ap (λ (k : ℕ). k % 2) (high (f n) n (made-lt n)) ∙ mod-eq-of-lt (two n) ∙ ap f (sym e)
-
-      lower : j < n → bit (sum n (λ i. f i * 2 ^ i)) j ≡ f j → bit (sum n (λ i. f i * 2 ^ i) + f n * 2 ^ n) j ≡ f j
-      lower l ih =
-          let k : n ≡ n - j - 1 + 1 + j = omega arith in
-          let e : f n * 2 ^ n ≡ f n * 2 ^ (n - j - 1) * 2 * 2 ^ j =
-          ap (λ (i : ℕ). f n * 2 ^ i) k ∙ simp (pow-add, mul-assoc) in
-          ap (λ (p : ℕ). (sum n (λ i. f i * 2 ^ i) + p) / 2 ^ j % 2) e
-          ∙ ap (λ (p : ℕ). p % 2) (add-mul-div-right (sum n (λ i. f i * 2 ^ i)) (f n * 2 ^ (n - j - 1) * 2) (pow-pos j))
-          ∙ add-mul-mod-self-right (sum n (λ i. f i * 2 ^ i) / 2 ^ j) (f n * 2 ^ (n - j - 1)) 2 ∙ ih

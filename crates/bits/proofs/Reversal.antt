@@ -1,9 +1,9 @@
 -- The reversal: its bits, and that five stages give it.
 use Rattle.words.specs.Word.{bit, brev, sum}
-use Rattle.bits.specs.Inner.Swaps.{origin, swapped}
+use Rattle.bits.specs.Inner.Swaps.{origin, picked, swapped}
 use Rattle.bits.proofs.Bitwise.{bit-lt, made-bit, made-of}
-use Rattle.bits.proofs.Swaps.{one-more}
-use Prim.Native.Nat.{_*_, _-_, _<_, _^_, ℕ}
+use Rattle.bits.proofs.Swaps.{picked-on}
+use Prim.Native.Nat.{_-_, _<_, _^_, ℕ}
 use mathlib.Core.Path.{_∙_, _≡_, refl}
 use lib.Dec.{lit<}
 
@@ -22,7 +22,7 @@ abbrev traced : ℕ → ℕ
 traced i = origin 16 0x0000FFFF (origin 8 0x00FF00FF (origin 4 0x0F0F0F0F (origin 2 0x33333333 (origin 1 0x55555555 i))))
 
 -- antt computes of each of the 32 places that this is place 31 - i
-traced-is : (a : ℕ) → sum 32 (λ i. bit a (traced i) * 2 ^ i) ≡ brev 32 a
+traced-is : (a : ℕ) → picked 32 a traced ≡ brev 32 a
 unfolding brev sum
 traced-is a = refl
 
@@ -30,8 +30,8 @@ pub reversed : (a b c d e r : ℕ) → b ≡ swapped 32 a 16 0x0000FFFF → c �
     → e ≡ swapped 32 d 2 0x33333333 → r ≡ swapped 32 e 1 0x55555555 → r ≡ brev 32 a
 unfolding swapped
 reversed a b c d e r halves quarters eighths sixteenths bits =
-    one-more 32 1 0x55555555 refl (lit< tt) _ a e r
-    (one-more 32 2 0x33333333 refl (lit< tt) _ a d e
-    (one-more 32 4 0x0F0F0F0F refl (lit< tt) _ a c d
-    (one-more 32 8 0x00FF00FF refl (lit< tt) (origin 16 0x0000FFFF) a b c halves quarters) eighths) sixteenths) bits
+    picked-on 32 1 0x55555555 refl (lit< tt) _ a e r
+    (picked-on 32 2 0x33333333 refl (lit< tt) _ a d e
+    (picked-on 32 4 0x0F0F0F0F refl (lit< tt) _ a c d
+    (picked-on 32 8 0x00FF00FF refl (lit< tt) (origin 16 0x0000FFFF) a b c halves quarters) eighths) sixteenths) bits
     ∙ traced-is a
