@@ -9,7 +9,7 @@ use native.Mathlib.Numerals.{add-one, one-add}
 use native.Mathlib.Nat.{add-assoc, add-comm, add-mul-div-right, add-mul-mod-self-right, add-zero, div-eq-of-lt, div-eq-of-lt-le, div-one, mod-eq-of-lt, mod-lt, mod-one, mul-assoc, not-suc-le-zero, one-mul, pow-suc, zero-add, zero-div, zero-lt-suc}
 use lib.Pow.{high, mod-pow-add, pow-add, pow-pos, shl-shr, shr-lt, shr-shr}
 use lib.Arith.{digits-lt}
-use lib.Bits.{and-mod, and-shr, bitAnd, bitOr, bitXor, or-mod, or-shr, xor-mod, xor-shr}
+use lib.Bits.{and-block, and-mod, and-shr, bitAnd, bitOr, bitXor, or-mod, or-shr, xor-mod, xor-shr}
 
 pub bit-lt : (a i : ℕ) → bit a i < 2
 bit-lt a i = mod-lt (a / 2 ^ i) (zero-lt-suc 1)
@@ -42,6 +42,12 @@ module _ (a b i : ℕ) where
       ap (λ (n : ℕ). n % 2) (xor-shr a b i) ∙ xor-mod (a / 2 ^ i) (b / 2 ^ i) 1
       ∙ by-bits (λ x y. bitXor x y ≡ (x + y) % 2) refl refl refl refl
 
+-- AND of two numbers that are moved up alike
+pub and-up : (a b k : ℕ) → bitAnd a b * 2 ^ k ≡ bitAnd (a * 2 ^ k) (b * 2 ^ k)
+and-up a b k =
+    sym (ap₂ bitAnd (sym (add-zero (a * 2 ^ k))) (sym (add-zero (b * 2 ^ k))) ∙ and-block k a b 0 0 (pow-pos k) (pow-pos k)
+    ∙ add-zero (bitAnd a b * 2 ^ k))
+
 -- NOT turns every bit of the word
 odd-complement : (m x : ℕ) → x < 2 ^ (m + 1) → (2 ^ (m + 1) - 1 - x) % 2 ≡ 1 - x % 2
 odd-complement m x h = let e : 2 ^ (m + 1) ≡ 2 ^ m * 2 = pow-add 2 m 1 in omega arith
@@ -69,6 +75,9 @@ down-bit a k i = ap (λ (n : ℕ). n % 2) (shr-shr a k i) ∙ ap (bit a) (add-co
 
 pub up-bit : (a k i : ℕ) → bit (a * 2 ^ k) (i + k) ≡ bit a i
 up-bit a k i = sym (down-bit (a * 2 ^ k) k i) ∙ ap (λ (n : ℕ). bit n i) (shl-shr a k)
+
+pub up-from : (a k i : ℕ) → k ≤ i → bit (a * 2 ^ k) i ≡ bit a (i - k)
+up-from a k i l = let e : i ≡ i - k + k = omega arith in ap (bit (a * 2 ^ k)) e ∙ up-bit a k (i - k)
 
 -- under what was moved up, nothing changes
 pub under-bit : (a b k i : ℕ) → i < k → bit (a + b * 2 ^ k) i ≡ bit a i

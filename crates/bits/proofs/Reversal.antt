@@ -30,8 +30,8 @@ pub reversed : (a b c d e r : ℕ) → b ≡ swapped 32 a 16 0x0000FFFF → c �
     → e ≡ swapped 32 d 2 0x33333333 → r ≡ swapped 32 e 1 0x55555555 → r ≡ brev 32 a
 unfolding swapped
 reversed a b c d e r halves quarters eighths sixteenths bits =
-    picked-on 32 1 0x55555555 refl (lit< tt) _ a e r
-    (picked-on 32 2 0x33333333 refl (lit< tt) _ a d e
-    (picked-on 32 4 0x0F0F0F0F refl (lit< tt) _ a c d
-    (picked-on 32 8 0x00FF00FF refl (lit< tt) (origin 16 0x0000FFFF) a b c halves quarters) eighths) sixteenths) bits
+    picked-on 32 1 _ refl (lit< tt) _ a e r
+    (picked-on 32 2 _ refl (lit< tt) _ a d e
+    (picked-on 32 4 _ refl (lit< tt) _ a c d
+    (picked-on 32 8 _ refl (lit< tt) (origin 16 _) a b c halves quarters) eighths) sixteenths) bits
     ∙ traced-is a

@@ -1,5 +1,5 @@
 // The bits of words of 32 and of 64 bits: AND OR XOR NOT, POPC LSB UMSB IMSB, BREV, and one bit of many words; the
-// shifts in a module of their own. Of crate `words`, specs/Word.antt says what each returns.
+// shifts in a module of their own. Of crate `words`, specs/Word.antt says what each returns; specs/Inner has a stage of BREV.
 use words::sums::LEAST32;
 ghost use mathlib.Core.Path.{_≡_};
 ghost use Prim.Native.Nat.{_*_, _^_, _<_};
@@ -84,12 +84,12 @@ pub fn brev32(a: u32) -> u32
     swap(sixteenths, 1, 0x55555555)
 }
 
-// The bits of `low` change places with those `distance` above them, which must be all the others.
-fn swap(a: u32, distance: u32, low: u32) -> u32
-    requires { ⌜ (distance < 32) × (low * 2 ^ distance ≡ compl 32 low) ⌝ }
-    ensures { λ r. ⌜ r ≡ swapped 32 a distance low ⌝ }
+// The bits of the mask change places with those `distance` above them, which must be all the others.
+fn swap(a: u32, distance: u32, mask: u32) -> u32
+    requires { ⌜ (distance < 32) × (mask * 2 ^ distance ≡ compl 32 mask) ⌝ }
+    ensures { λ r. ⌜ r ≡ swapped 32 a distance mask ⌝ }
 {
-    ((a >> distance) & low) | ((a & low) << distance)
+    ((a >> distance) & mask) | ((a & mask) << distance)
 }
 
 // Whether bit i of words of 32 bits is set.

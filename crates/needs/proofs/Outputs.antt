@@ -1,31 +1,18 @@
 -- The checker's word of the declared OUT is made of one bit for each.
 -- Assumes nothing.
-use mathlib.Core.Path.{_≡_, refl, sym, ap, _∙_}
+use mathlib.Core.Path.{_≡_, refl, ap, _∙_}
 use mathlib.Core.Bool.{Bool, true, false, cond}
 use mathlib.Core.List.{List}
-use Prim.Native.Nat.{ℕ, zero, suc, _+_, _*_, _/_, _%_, _^_, _<_}
+use Prim.Native.Nat.{ℕ, _*_, _/_, _%_, _^_, _<_}
 use native.Mathlib.Omega.{arith}
-use native.Mathlib.Numerals.{one-add}
-use native.Mathlib.Nat.{add-comm, mod-eq-of-lt}
 use lib.Dec.{eqb}
 use lib.ListN.{getD}
-use lib.Pow.{mod-pow-add}
 use Rattle.words.specs.Word.{bit, bitIn, sum}
-use Rattle.bits.proofs.Bitwise.{bit-lt, bit-cases, sum-same, made-bit}
+use Rattle.bits.proofs.Bitwise.{bit-lt, bit-cases, sum-same, made-bit, made-of}
 use Rattle.format.specs.Files.{OUT, registersOf}
 use Rattle.registers.specs.declared.sets.Declared.{Declared}
 use Rattle.registers.specs.Sets.{Registers, isIn}
 use Rattle.needs.specs.Needs.{outputsIn}
-
--- A number is made of its bits.
-made-of-bits : (a n : ℕ) → sum n (λ i. bit a i * 2 ^ i) ≡ a % 2 ^ n
-unfolding sum
-made-of-bits a zero = omega arith
-made-of-bits a (suc n) =
-    ap (λ (s : ℕ). s + bit a n * 2 ^ n) (made-of-bits a n)
-    ∙ add-comm (a % 2 ^ n) (bit a n * 2 ^ n)
-    ∙ sym (mod-pow-add a 1 n)
-    ∙ ap (λ (k : ℕ). a % 2 ^ k) (one-add n)
 
 as-bit : (x : ℕ) → x < 2 → _≡_ {A = ℕ} x (cond (eqb x 1) 1 0)
 as-bit = bit-cases (λ x. _≡_ {A = ℕ} x (cond (eqb x 1) 1 0)) refl refl
@@ -39,7 +26,7 @@ first-bit words i h =
     rw (first, place) (as-bit (bit (getD words 0 0) i) (bit-lt (getD words 0 0) i))
 
 pub word-of-bits : (word : ℕ) → word < 2 ^ 32 → word ≡ sum 32 (λ i. bit word i * 2 ^ i)
-word-of-bits word fits = sym (made-of-bits word 32 ∙ mod-eq-of-lt fits)
+word-of-bits word fits = made-of 32 word (bit word) fits (λ i h. refl)
 
 pub outputs-are : (d : Declared) (r : ℕ) → r ≡ sum 32 (λ i. bit (getD (d .outs) 0 0) i * 2 ^ i) → r ≡ outputsIn (isIn d)
 unfolding outputsIn isIn

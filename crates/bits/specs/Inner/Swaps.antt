@@ -8,10 +8,10 @@ use Rattle.words.specs.Word.{bit, isSet, sum}
 abbrev pub picked : ℕ → ℕ → (ℕ → ℕ) → ℕ
 picked w a f = sum w (λ i. bit a (f i) * 2 ^ i)
 
--- where bit i comes from: one that `low` has from above, any other from below
+-- where bit i comes from: a bit of the mask from `distance` places above, any other from `distance` places below
 abbrev pub origin : ℕ → ℕ → ℕ → ℕ
-origin distance low i = cond (isSet low i) (i + distance) (i - distance)
+origin distance mask i = cond (isSet mask i) (i + distance) (i - distance)
 
--- the bits of `low` and those that many places above them, exchanged
+-- the bits of the mask exchanged with those `distance` above them, where these are all the others: only so is it promised
 unfoldable pub swapped : ℕ → ℕ → ℕ → ℕ → ℕ
-swapped w a distance low = picked w a (origin distance low)
+swapped w a distance mask = picked w a (origin distance mask)
