@@ -1,4 +1,6 @@
 // Whether a file may be run over what is lent, by lengths alone: the refusals of the check, and after them those for what is lent.
+#![tactic(auto)]
+
 ghost use Rattle.std.specs.Prelude.{◌≡◌, []};
 ghost use Rattle.checker.specs.Check.{program_seen, examined_as, examined};
 ghost use Rattle.admission.specs.Admission.{lent_refusal, admission_of};

@@ -1,4 +1,6 @@
 // What the C interface answers: structs that C knows, and each answer of the library put into their words.
+#![tactic(auto)]
+
 ghost use Rattle.std.specs.Prelude.{◌≡◌};
 ghost use Rattle.checker.specs.Check.{told};
 ghost use Rattle.preparation.specs.Preparing.{prepare_answer};

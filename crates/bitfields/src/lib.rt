@@ -1,5 +1,7 @@
 // Fields of bits. UBFE, IBFE and BFI have one function each; the test that they share and their parts stand below. The parts are
 // numbers of 64 bits, so that 2^32 fits. `words`' specs/Word.antt says what each returns.
+#![tactic(auto)]
+
 ghost use Rattle.std.specs.Prelude.{◌≡◌, ◌+◌, ◌*◌, ◌%◌, ◌^◌, ◌<◌, ◌≤◌};
 ghost use Rattle.words.specs.Word.{signed, word, outside, field, replaced, ubfe, ibfe, bfi};
 

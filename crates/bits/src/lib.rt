@@ -1,5 +1,7 @@
 // The bits of words of 32 and of 64 bits: AND OR XOR NOT, POPC LSB UMSB IMSB, BREV, and one bit of many words; the
 // shifts in a module of their own. Of crate `words`, specs/Word.antt says what each returns; specs/Inner has a stage of BREV.
+#![tactic(auto)]
+
 ghost use Rattle.std.specs.Prelude.{◌≡◌, ◌*◌, ◌^◌, ◌<◌};
 ghost use Rattle.std.specs.Int.Bits.{bit_and, bit_or, bit_xor};
 ghost use Rattle.words.specs.Word.{bit_in, compl, popc, lsb, umsb, imsb, brev};

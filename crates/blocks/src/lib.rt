@@ -1,4 +1,5 @@
 // Structured control: the nested lists of a program, how they are read, the table of its jumps and labels, and the run by it.
+#![tactic(auto)]
 
 pub mod control;
 

@@ -1,4 +1,6 @@
 // The checker of program files: the refusals 1 to 13 of document 01.
+#![tactic(auto)]
+
 ghost use Rattle.std.specs.Prelude.{◌≡◌, List, ℕ};
 ghost use Rattle.checker.specs.Check.{check_of, refused, told, told_of, examined_as, examined};
 

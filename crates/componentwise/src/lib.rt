@@ -1,4 +1,6 @@
 // Component-wise results: each word is made of one component of each source, and written where the mask has it.
+#![tactic(auto)]
+
 ghost use Rattle.std.specs.Prelude.{◌≡◌, ◌<◌};
 ghost use Rattle.destinations.specs.Destinations.{if_masked, masked, placed};
 ghost use Rattle.componentwise.specs.Components.{source_word, result_words};

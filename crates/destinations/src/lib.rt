@@ -1,5 +1,7 @@
 // Lent words, which registers and memory are, read and written one by one (`lent`), and destinations: results written by register
 // number to the components of a mask.
+#![tactic(auto)]
+
 ghost use Rattle.std.specs.Prelude.{◌≡◌, ◌+◌, set};
 ghost use Rattle.words.specs.Word.{is_set};
 ghost use Rattle.destinations.specs.Destinations.{if_masked, masked, first_word, placed};

@@ -1,4 +1,6 @@
 // Quotients and remainders (UDIV UMOD IDIV MOD); the signed ones go by the magnitudes. `words`' specs/Word.antt says what each returns.
+#![tactic(auto)]
+
 ghost use Rattle.std.specs.Prelude.{◌≡◌};
 ghost use Rattle.words.specs.Word.{udiv, urem, sdiv, srem};
 

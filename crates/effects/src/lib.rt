@@ -1,4 +1,5 @@
 // What an instruction does with its sources, by its kind.
+#![tactic(auto)]
 
 pub mod effect;
 mod sources;

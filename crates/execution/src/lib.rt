@@ -1,4 +1,5 @@
 // Carrying out a program that the check took, by the rows of its table, over what is lent.
+#![tactic(auto)]
 
 pub mod steps;
 

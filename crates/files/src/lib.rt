@@ -1,5 +1,7 @@
 // The words that a program is started with, and the files that they name. What is wrong is told on standard error. No contract can
 // say what is read or written.
+#![tactic(auto)]
+
 mod reading;
 
 ghost use Rattle.std.specs.Prelude.{◌≤◌};

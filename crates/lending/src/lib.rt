@@ -1,4 +1,6 @@
 // What is lent to a run, before its first step: the registers cleared, and what is read and never written gathered in one bank.
+#![tactic(auto)]
+
 ghost use Rattle.std.specs.Prelude.{◌≡◌, ◌++◌, ◌<◌, min, get_or};
 ghost use Rattle.format.specs.Files.{lent_registers};
 ghost use Rattle.registers.specs.Sets.{is_in};

@@ -1,6 +1,8 @@
 // Runs programs just within and just past each limit of document 01, and writes a line for each. The file `stdout` beside `src`
 // holds the lines that are expected: they were worked out from document 01, as the comment at each case says, and not taken
 // from a run.
+#![tactic(auto)]
+
 use lent::{Lent, words};
 
 mod build;

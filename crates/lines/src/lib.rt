@@ -1,5 +1,7 @@
 // The line of a record. Bytes are put where they lie within the output and counted in any case, so that an output of no bytes gives the
 // length.
+#![tactic(auto)]
+
 ghost use Rattle.std.specs.Prelude.{◌≡◌, [], ◌∷◌, ◌++◌, ◌+◌, ◌≤◌, length};
 ghost use Rattle.std.proofs.lemmas.List.Edits.{sets};
 ghost use Rattle.format.specs.Kinds.{form_of, widths};

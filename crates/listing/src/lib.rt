@@ -1,4 +1,6 @@
 // Listings of programs: print, and read back (document 02, W1).
+#![tactic(auto)]
+
 ghost use Rattle.std.specs.Prelude.{◌≡◌, List, ℕ, take, length as size};
 ghost use Rattle.format.specs.Records.{longest};
 ghost use Rattle.checker.specs.Check.{check_of};

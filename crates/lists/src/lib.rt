@@ -1,4 +1,6 @@
 // The nested lists, by the kinds of a program's instructions: where lists and blocks end, and their labels.
+#![tactic(auto)]
+
 ghost use Rattle.std.specs.Prelude.{◌≡◌, ◌+◌};
 ghost use Rattle.blocks.specs.Lists.{size};
 ghost use Rattle.blocks.specs.Table.{first_label};

@@ -1,4 +1,6 @@
 // Memory by byte address: a word that is misaligned or outside reads 0, and its write is dropped.
+#![tactic(auto)]
+
 ghost use Rattle.std.specs.Prelude.{◌≡◌, ◌+◌, ◌*◌};
 ghost use Rattle.destinations.specs.Destinations.{if_masked};
 ghost use Rattle.memory.specs.Memory.{loaded, stored, loaded_from, stored_from};

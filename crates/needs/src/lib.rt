@@ -1,5 +1,7 @@
 // What a run of a file asks its host for, before anything is lent: how many words of each, and what the program declares of
 // OUT and MEM.
+#![tactic(auto)]
+
 ghost use Rattle.std.specs.Prelude.{◌≡◌, [], ◌*◌, ◌^◌};
 ghost use Rattle.words.specs.Word.{bit, sum};
 ghost use Rattle.registers.specs.Sets.{is_in};

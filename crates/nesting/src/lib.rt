@@ -1,5 +1,7 @@
 // The open blocks from instruction to instruction, by the rules of nesting. The words of the CASEs of all open SWITCHes stand in
 // one array, those of each SWITCH from where it starts, and are a tree.
+#![tactic(auto)]
+
 ghost use Rattle.std.specs.Prelude.{◌≡◌, true, ◌<◌};
 ghost use Rattle.blocks.specs.Control.{op_of};
 ghost use Rattle.blocks.specs.Nesting.{opens};

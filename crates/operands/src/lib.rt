@@ -1,5 +1,7 @@
 // The operands of an instruction: which it may have, by the field rules, and whether what they name is there. Of crate
 // `registers`, specs/Rules.antt and specs/Found.antt say what these are.
+#![tactic(auto)]
+
 ghost use Rattle.std.specs.Prelude.{◌≡◌, ◌+◌};
 ghost use Rattle.format.specs.Kinds.{sources, form_of, first_source};
 ghost use Rattle.registers.specs.Rules.{may_negate, memory_kind, destination_file, mask_rule, destination_rule, source_rule, all_sources, all_operands, operand_rules};

@@ -1,4 +1,6 @@
 // Comparisons, the least and the greatest, and choices by a test (UCMP, ATOMCAS). `words`' specs/Word.antt says what each returns.
+#![tactic(auto)]
+
 ghost use Rattle.std.specs.Prelude.{◌≡◌};
 ghost use Rattle.words.specs.Word.{flag, slt, smin, smax, umin, umax, ucmp, cas};
 

@@ -1,4 +1,6 @@
 // The line of a run's outcome, on standard output. No contract can say what is written.
+#![tactic(auto)]
+
 use runner::Outcome;
 
 // `ended STEPS`, `halted STEPS NEXT` or `refused NUMBER PLACE`

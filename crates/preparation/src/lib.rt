@@ -1,4 +1,6 @@
 // Preparing alone: a file is checked and its table written to the working words.
+#![tactic(auto)]
+
 ghost use Rattle.std.specs.Prelude.{◌≡◌};
 ghost use Rattle.table.specs.Prepared.{filled};
 ghost use Rattle.preparation.specs.Preparing.{prepare_answer, prepare_after, prepare_of};

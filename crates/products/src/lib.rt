@@ -1,4 +1,6 @@
 // Products of words (UMUL, U64MUL, UMAD) and the HI pair, the upper halves. `words`' specs/Word.antt says what each returns.
+#![tactic(auto)]
+
 ghost use Rattle.std.specs.Prelude.{◌≡◌, ◌*◌, nat_abs};
 ghost use Rattle.words.specs.Word.{signed, mul, umad, umulhi, imulhi};
 

@@ -1,5 +1,7 @@
 // Numbers, operands and declarations at a place of the file: format's specs/Fields.antt says what these are. A byte past
 // the end reads as 0, so no reader asks for more than the slice it is lent.
+#![tactic(auto)]
+
 ghost use Rattle.std.specs.Prelude.{◌≡◌, ◌+◌, ◌*◌, ◌<◌, ◌≤◌, get_or, length};
 ghost use Rattle.format.specs.Fields.{word16, word32, number_at, destination_at, source_at, declaration_at, case_word, Bytes};
 

@@ -1,4 +1,6 @@
 // Records of a file, walked by their lengths alone: format's specs/Records.antt says where record n lies.
+#![tactic(auto)]
+
 ghost use Rattle.std.specs.Prelude.{◌≡◌, ◌+◌};
 ghost use Rattle.format.specs.Records.{size_at, start_of, record_of, bounds_of};
 

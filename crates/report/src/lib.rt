@@ -1,4 +1,6 @@
 // What the programs write on standard output: text, numbers and refusals. No contract can say what is written.
+#![tactic(auto)]
+
 use libc::STDOUT_FILENO;
 
 mod meanings;

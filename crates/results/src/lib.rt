@@ -1,4 +1,6 @@
 // Results by kind. Each family is a match over its kinds, in document 01's order.
+#![tactic(auto)]
+
 ghost use Rattle.std.specs.Prelude.{◌≡◌};
 ghost use Rattle.results.specs.Arithmetic.{atomic, result_word};
 

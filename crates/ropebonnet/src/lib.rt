@@ -1,5 +1,7 @@
 // The C interface. A slice goes as a pointer and a length; each function hands the call on and puts the library's answer into
 // words. `include/ropebonnet.h` declares the functions for C.
+#![tactic(auto)]
+
 ghost use Rattle.std.specs.Prelude.{◌≡◌, ◌≤◌};
 ghost use Rattle.format.specs.Records.{bounds_of};
 ghost use Rattle.blocks.specs.Table.{row_words};

@@ -1,5 +1,7 @@
 // What a table's rows are made of, by the kinds of a program's instructions: the jump and the label of each, and where the
 // instructions in a block's lists go.
+#![tactic(auto)]
+
 ghost use Rattle.std.specs.Prelude.{◌≡◌, cond, ◌+◌};
 ghost use Rattle.blocks.specs.Control.{is_label, op_of};
 ghost use Rattle.blocks.specs.Table.{jump_of, first_label};

@@ -1,4 +1,6 @@
 // The rules of nesting: refusals 10 to 12.
+#![tactic(auto)]
+
 ghost use Rattle.std.specs.Prelude.{◌≡◌};
 ghost use Rattle.blocks.specs.Control.{op_of};
 ghost use Rattle.rules.specs.Kept.{nesting_kept, switch_kept, nesting_refusal};

@@ -1,4 +1,6 @@
 // Runs of program files: check, prepare, clear, carry out. Nobody has to check first, and nothing is asked of what is lent.
+#![tactic(auto)]
+
 ghost use Rattle.std.specs.Prelude.{◌≡◌, ◌≤◌};
 ghost use Rattle.runner.specs.Answers.{run_answer, lent, after, steps_of};
 ghost use Rattle.runner.specs.Whole.{run_of};

@@ -1,6 +1,8 @@
 // A program over what is lent: the bank gathered, its table written, the registers cleared, its instructions carried out by the
 // table. Nothing is asked of the program: what is carried out is what the table says. Where it is what the check saw of the file, and
 // all that it needs is lent, that is the block reading (`runner`'s `run`).
+#![tactic(auto)]
+
 ghost use Rattle.std.specs.Prelude.{◌≡◌};
 ghost use Rattle.table.specs.Prepared.{filled};
 ghost use Rattle.registers.specs.Sets.{is_in};

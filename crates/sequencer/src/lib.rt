@@ -1,4 +1,6 @@
 // What comes next after an instruction: by the prepared rows, and for a SWITCH along its labels.
+#![tactic(auto)]
+
 ghost use Rattle.std.specs.Prelude.{◌≡◌};
 ghost use Rattle.blocks.specs.Control.{op_of};
 ghost use Rattle.blocks.specs.Table.{place_in, row_in};

@@ -1,4 +1,6 @@
 // The open blocks, in arrays.
+#![tactic(auto)]
+
 ghost use Rattle.std.specs.Prelude.{◌≡◌, get_or};
 ghost use Rattle.stack.specs.Arrays.{none_open, innermost_is, some_is, innermost_start, popped, recoded};
 

@@ -1,5 +1,7 @@
 // The code that fills the prepared table. Two readers that call each other do it: `block` reads a list of instructions,
 // `opening` the block that one of them opens.
+#![tactic(auto)]
+
 ghost use Rattle.std.specs.Prelude.{◌≡◌, ◌∷◌, [], ◌+◌, ◌*◌, ◌<◌, ◌≤◌, length, get_or};
 ghost use Rattle.std.proofs.lemmas.List.Edits.{sets};
 ghost use Rattle.format.specs.Records.{longest, next};

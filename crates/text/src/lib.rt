@@ -1,4 +1,5 @@
 // Texts: decimal numbers, the parts between separators, and outputs that a caller lends.
+#![tactic(auto)]
 
 pub mod numbers;
 pub mod output;

@@ -1,5 +1,7 @@
 // Writes the listing of a program file: tgsi_list PROGRAM. Standard output has the listing or the refusal alone, whatever the file is
 // called, so that the installed command can go by its first word.
+#![tactic(auto)]
+
 use libc::{STDERR_FILENO, STDOUT_FILENO};
 use text::output::Filled;
 

@@ -1,5 +1,7 @@
 // Writes the program file that a listing gives: tgsi_read LISTING OUT. Standard output has `wrote N bytes` or the refusal alone, whatever
 // the files are called, so that the installed command can go by its first word.
+#![tactic(auto)]
+
 ghost use Rattle.std.specs.Prelude.{◌≡◌, length};
 ghost use Rattle.io.specs.Counts.{IsPrefixLen};
 

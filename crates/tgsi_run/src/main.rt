@@ -1,5 +1,7 @@
 // Runs a program file: tgsi_run PROGRAM [INPUTS [CONSTANTS]]. Memory is 16,384 words of 0 and the budget 200,000 steps.
 // Standard output has the outcome alone, whatever the files are called, so that the installed command can go by its first word.
+#![tactic(auto)]
+
 use libc::{STDERR_FILENO, STDOUT_FILENO};
 use runner::Outcome;
 

@@ -1,5 +1,7 @@
 // The words of a SWITCH's CASEs as a digital search tree. A word's node is its place among the words, the first is the root,
 // and a node of depth d parts the words below it by their bit d: a search looks at no more than 33 nodes.
+#![tactic(auto)]
+
 ghost use Rattle.std.specs.Prelude.{◌≡◌, ◌<◌, get_or, set};
 ghost use Rattle.tree.specs.Search.{slot_of, place_in, is_here, hung};
 
