@@ -14,7 +14,7 @@ use format::refusals;
 const MOST_MEMORY_WORDS: usize = 16384;
 
 // How many words are lent of each.
-#[derive(Drop)]
+#[derive(Clone, Copy)]
 pub struct Sizes {
     pub inputs: usize,
     pub constants: usize,

@@ -16,7 +16,7 @@ use text::output::Filled;
 // first. 1: halted, with the steps first and the next instruction's number second. 2: refused, with the refusal's number first
 // and its place second. Words that a status does not use are 0.
 #[repr(C)]
-#[derive(Drop)]
+#[derive(Clone, Copy)]
 pub struct Answer {
     pub status: u32,
     pub first: u32,
@@ -25,7 +25,7 @@ pub struct Answer {
 
 // Where a record lies in the file, and how many bytes it has.
 #[repr(C)]
-#[derive(Drop)]
+#[derive(Clone, Copy)]
 pub struct Part {
     pub start: usize,
     pub length: usize,

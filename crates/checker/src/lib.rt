@@ -11,7 +11,7 @@ pub mod program;
 mod walk;
 
 // What is said of a file.
-#[derive(Drop)]
+#[derive(Clone, Copy)]
 pub enum Verdict {
     // It follows the rules, and has so many instructions.
     Accepted(u32),
@@ -20,7 +20,7 @@ pub enum Verdict {
 }
 
 // A verdict, and what a run needs of the program: where it is refused, one of which nothing has been seen.
-#[derive(Drop)]
+#[derive(Clone, Copy)]
 pub struct Checked {
     pub verdict: Verdict,
     pub program: Program,

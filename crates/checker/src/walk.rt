@@ -21,28 +21,28 @@ use registers::sets;
 use stack::Blocks;
 
 // What the checker knows after some records.
-#[derive(Drop)]
+#[derive(Clone, Copy)]
 pub struct State {
     pub program: Program,
     pub blocks: Blocks,
 }
 
 // What is found of a record: the number of the refusal, or 0 and the state after it.
-#[derive(Drop)]
+#[derive(Clone, Copy)]
 pub struct Taken {
     pub refusal: u8,
     pub state: State,
 }
 
 // How the walk goes on after a record: to the next record, or not.
-#[derive(Drop)]
+#[derive(Clone, Copy)]
 pub enum Way {
     On,
     Ended(Verdict),
 }
 
 // The state after a record, and how the walk goes on.
-#[derive(Drop)]
+#[derive(Clone, Copy)]
 pub struct Turn {
     pub state: State,
     pub way: Way,

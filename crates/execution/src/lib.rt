@@ -4,14 +4,14 @@
 pub mod steps;
 
 // What is told of the instructions that were carried out.
-#[derive(Drop)]
+#[derive(Clone, Copy)]
 pub struct Report {
     // How many there were.
     pub steps: u32,
 }
 
 // How a run stops.
-#[derive(Drop)]
+#[derive(Clone, Copy)]
 pub enum Stop {
     // END was carried out.
     Ended(Report),

@@ -11,7 +11,7 @@ use libc::STDERR_FILENO;
 pub use reading::{FAILED, Read, fill, open};
 
 // Bytes at the start of a buffer, and how many more the file has.
-#[derive(Drop)]
+#[derive(Clone, Copy)]
 pub struct Start {
     pub whole: bool,
     pub count: usize,

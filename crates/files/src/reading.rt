@@ -3,7 +3,7 @@ ghost use Rattle.std.specs.Prelude.{◌≤◌};
 ghost use Rattle.io.specs.Counts.{IsPrefixLen};
 
 // Whether no read failed, and how many bytes or words there are. Where one failed, a line has said why.
-#[derive(Drop)]
+#[derive(Clone, Copy)]
 pub struct Read {
     pub whole: bool,
     pub count: usize,
@@ -15,7 +15,7 @@ pub const FAILED: Read = Read {
 };
 
 // What follows what was read, passed over and counted.
-#[derive(Drop)]
+#[derive(Clone, Copy)]
 pub struct Rest {
     pub whole: bool,
     pub bytes: u64,

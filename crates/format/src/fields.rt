@@ -3,7 +3,7 @@ ghost use Rattle.std.specs.Prelude.{◌≡◌};
 ghost use Rattle.format.specs.Fields.{negates, indirection};
 
 // Where an instruction writes: a register, and the components that its mask has.
-#[derive(Drop)]
+#[derive(Clone, Copy)]
 pub struct Destination {
     pub file: u8,
     pub index: u16,
@@ -11,7 +11,7 @@ pub struct Destination {
 }
 
 // What an instruction reads: a register, the component taken for each, and negate and indirect in the modifier.
-#[derive(Drop)]
+#[derive(Clone, Copy)]
 pub struct Source {
     pub file: u8,
     pub index: u16,
@@ -20,7 +20,7 @@ pub struct Source {
 }
 
 // The registers of a file from first to last.
-#[derive(Drop)]
+#[derive(Clone, Copy)]
 pub struct Declaration {
     pub file: u8,
     pub first: u16,

@@ -4,7 +4,7 @@
 pub const LONGEST: usize = 65536;
 
 // Where a record starts, and how many bytes it has.
-#[derive(Drop)]
+#[derive(Clone, Copy)]
 pub struct Bounds {
     pub start: usize,
     pub length: usize,

@@ -4,7 +4,7 @@ use runner::Outcome;
 const BUDGET: u32 = 200000;
 
 // How many words of each sort are lent.
-#[derive(Drop)]
+#[derive(Clone, Copy)]
 pub struct Lent {
     pub inputs: usize,
     pub constants: usize,

@@ -6,7 +6,7 @@ use super::reading::{Found, spell};
 use text::parts::{LINE_FEED, ended_length};
 
 // What a piece tells.
-#[derive(Drop)]
+#[derive(Clone, Copy)]
 pub enum Piece {
     // The first malformed line that ends in it starts at a place.
     Malformed(usize),

@@ -13,7 +13,7 @@ use text::parts::{LINE_FEED, first_part, rest_from};
 
 // What a listing comes to: a malformed line, whose first byte stands at a place, or a file of so many bytes. A file that is longer
 // than any may be has some length that is longer.
-#[derive(Drop)]
+#[derive(Clone, Copy)]
 pub enum Found {
     Malformed(usize),
     File(usize),

@@ -19,7 +19,7 @@ use registers::sets::{Declared, is_declared};
 // refusal's number first and its place second, and all else 0. `work`, `inputs` and `constants` are how many words a run asks
 // for, bit i of `outputs` is 1 where OUT[i] is declared, and `memory` is 1 where MEM is.
 #[repr(C)]
-#[derive(Drop)]
+#[derive(Clone, Copy)]
 pub struct Needs {
     pub status: u32,
     pub first: u32,

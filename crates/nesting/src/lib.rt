@@ -12,7 +12,7 @@ use rules::nesting_refusal;
 use stack::{Blocks, codes, innermost_start, popped, recoded};
 
 // What the rules say of an instruction: the number of the refusal, or 0 and the blocks that are open after it.
-#[derive(Drop)]
+#[derive(Clone, Copy)]
 pub struct Nested {
     pub refusal: u8,
     pub blocks: Blocks,

@@ -12,7 +12,7 @@ use format::refusals::WORKING_SHORT;
 use table::fill;
 
 // What preparing answers.
-#[derive(Drop)]
+#[derive(Clone, Copy)]
 pub enum Prepared {
     // The table of so many instructions stands in the working words.
     Ready(u32),

@@ -12,7 +12,7 @@ use bits::bit_in;
 use format::fields::Declaration;
 use format::files::{ADDR, CONST, IN, MEM, OUT, TEMP, registers_of};
 
-#[derive(Drop)]
+#[derive(Clone, Copy)]
 pub struct Declared {
     pub consts: [u32; 32],
     pub ins: [u32; 1],

@@ -13,7 +13,7 @@ use blocks::control::{BGNLOOP, BRK, CONT, ELSE, ENDLOOP, SWITCH, UIF, is_label};
 use lists::{next_label, past, past_block};
 
 // The block that an instruction opens: the numbers past it and past its first list, and the instruction's jump and label.
-#[derive(Drop)]
+#[derive(Clone, Copy)]
 pub struct Opened {
     pub end: usize,
     pub second: usize,

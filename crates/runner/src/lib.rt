@@ -15,7 +15,7 @@ pub use records::{record, record_bounds};
 use running::carry_out_program;
 
 // What a run answers.
-#[derive(Drop)]
+#[derive(Clone, Copy)]
 pub enum Outcome {
     // END was carried out.
     Ended(Report),

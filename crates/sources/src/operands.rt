@@ -13,7 +13,7 @@ use format::files::{ADDR_FROM, CONST, IMM, IN, TEMP, TEMP_FROM};
 use words::sums::neg32;
 
 // The register that a source names, or none.
-#[derive(Drop)]
+#[derive(Clone, Copy)]
 pub enum Place {
     Register(u32),
     Nowhere,

@@ -29,7 +29,7 @@ fn put_number(n: u32, width: u8, output: &mut [u8], at: usize)
 }
 
 // A number of a line modulo 2^32, and where the next one starts: at the line's end where there is none.
-#[derive(Drop)]
+#[derive(Clone, Copy)]
 struct Number {
     value: u32,
     next: usize,

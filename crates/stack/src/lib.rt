@@ -7,7 +7,7 @@ ghost use Rattle.stack.specs.Arrays.{none_open, innermost_is, some_is, innermost
 pub mod codes;
 
 // The open blocks, the outermost first: a code each, and where its words start. `held` is where the words end.
-#[derive(Drop)]
+#[derive(Clone, Copy)]
 pub struct Blocks {
     pub codes: [u8; 16],
     pub starts: [u16; 16],

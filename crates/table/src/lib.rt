@@ -124,7 +124,7 @@ fn next_place(file: &[u8], at: usize) -> usize
 }
 
 // The kinds and byte places of a program's instructions, from the front of each array.
-#[derive(Drop)]
+#[derive(Clone, Copy)]
 struct Instructions {
     kinds: [u8; 1024],
     places: [u32; 1024],

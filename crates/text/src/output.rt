@@ -4,7 +4,7 @@ ghost use Rattle.std.proofs.lemmas.List.Edits.{sets};
 ghost use Rattle.text.specs.Output.{answered, written, delivered};
 
 // What a call that writes to a lent output answers.
-#[derive(Drop)]
+#[derive(Clone, Copy)]
 pub enum Filled {
     // How many bytes it wrote, from the front.
     Wrote(usize),

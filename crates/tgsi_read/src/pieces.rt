@@ -15,7 +15,7 @@ use text::output::move_to_front;
 const TURNS: u64 = 36000000000000;
 
 // The number of the refusal that is due, and its place; or 0, and how many bytes are passed.
-#[derive(Drop)]
+#[derive(Clone, Copy)]
 struct Turn {
     number: u8,
     place: u64,

@@ -6,7 +6,7 @@ ghost use Rattle.std.specs.Prelude.{◌≡◌, ◌<◌, get_or, set};
 ghost use Rattle.tree.specs.Search.{slot_of, place_in, is_here, hung};
 
 // Where the search for a word ends.
-#[derive(Drop)]
+#[derive(Clone, Copy)]
 pub enum Place {
     // At its node.
     Here,
