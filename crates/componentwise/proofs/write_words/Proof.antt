@@ -7,10 +7,10 @@ use borrow.Author.Rules.{rules}
 use Rattle.componentwise.proofs.write_words.Statement.{statement}
 use Rattle.componentwise.proofs.write_words.Tie as tie
 
-abbrev invariant-loop : tie.invariant-loop
+abbrev invariant-loop : tie.invariant-loop-i
 invariant-loop registers₀ first mask kind sources i₀ registers i = (i ≤ 4) × (registers ≡ written_to first mask (result_words kind sources) registers₀ i)
 
-abbrev decreases-loop : tie.decreases-loop
+abbrev decreases-loop : tie.decreases-loop-i
 decreases-loop registers₀ first mask kind sources i₀ registers i = 4 - i
 
 pub write_words_spec : {M : Type 1} → statement M

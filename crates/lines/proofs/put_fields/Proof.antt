@@ -13,13 +13,13 @@ use Rattle.lines.proofs.Printing.{left, fields_start, fields_next, count_next, f
 use Rattle.lines.proofs.put_fields.Statement.{statement}
 use Rattle.lines.proofs.put_fields.Tie as tie
 
-abbrev invariant-loop : tie.invariant-loop
+abbrev invariant-loop : tie.invariant-loop-i
 invariant-loop kind file from output₀ at place₀ count₀ i₀ output place count i =
     (sets output (at + count) (left kind file place i) ≡ sets output₀ at (spaced (numbers_at file from (widths (form_of kind)))))
     × (count + length (left kind file place i) ≡ length (spaced (numbers_at file from (widths (form_of kind)))))
     × (i ≤ 19) × (count ≤ 11 * i) × (place ≤ from + 255 * i) × (length output ≡ length output₀)
 
-abbrev decreases-loop : tie.decreases-loop
+abbrev decreases-loop : tie.decreases-loop-i
 decreases-loop kind file from output₀ at place₀ count₀ i₀ output place count i = 19 - i
 
 pub put_fields_spec : {M : Type 1} → statement M

@@ -40,14 +40,14 @@ past_block_at t = and 1 past-block-kinds.ps (is 1 past-block-kinds.ps μ-past-bl
 abbrev past_block_below : ℕ → In 1 past-block-kinds.ps
 past_block_below t = and 1 past-block-kinds.ps (falls 1 past-block-kinds.ps ◌<◌ μ-past-block t) past_block_is.Pre
 
-abbrev past-Inv-loop : past-lts.invariant-loop
+abbrev past-Inv-loop : past-lts.invariant-loop-m
 past-Inv-loop kinds n m₀ m = (n ≤ m) × (m + size (list_in kinds m) ≡ n + size (list_in kinds n))
 
-abbrev past-μ-loop : past-lts.decreases-loop
+abbrev past-μ-loop : past-lts.decreases-loop-m
 past-μ-loop kinds n m₀ m = length kinds - m
 
-pub +past-past-block-spec : {M : Type 1} → statement M
-+past-past-block-spec =
+pub +past_past_block_spec : {M : Type 1} → statement M
++past_past_block_spec =
     close μ-past μ-past-block
     (λ t. past-lts.spec
     (is-last-reads.Asked, is-last-reads.Learnt, is-opening-reads.Asked, is-opening-reads.Learnt, past_block_below t, past_block_is.Post)

@@ -10,10 +10,10 @@ use Rattle.lists.proofs.Readers.{left_falls, label_stop, label_last, label_found
 use Rattle.lists.proofs.next_label.Statement.{statement}
 use Rattle.lists.proofs.next_label.Tie as tie
 
-abbrev invariant-loop : tie.invariant-loop
+abbrev invariant-loop : tie.invariant-loop-m
 invariant-loop kinds n m₀ m = first_label (op_in kinds) (list_in kinds m) ≡ first_label (op_in kinds) (list_in kinds n)
 
-abbrev decreases-loop : tie.decreases-loop
+abbrev decreases-loop : tie.decreases-loop-m
 decreases-loop kinds n m₀ m = length kinds - m
 
 pub next_label_spec : {M : Type 1} → statement M

@@ -10,4 +10,4 @@ source_allowed_spec =
     tie.close
     (tie.spec
     (search rules) (search rules) (search rules)
-    (λ c. rw (c.may-negate.ensures, c.before.negates.ensures, c.before.before.indirection.ensures)))
+    (λ c. rw (c.may_negate.ensures, c.before.negates.ensures, c.before.before.indirection-indirect.ensures)))

@@ -9,12 +9,12 @@ use Rattle.operands.proofs.Sources.{sources_begin, sources_stop, sources_on, sou
 use Rattle.operands.proofs.sources_allowed.Statement.{statement}
 use Rattle.operands.proofs.sources_allowed.Tie as tie
 
-abbrev invariant-loop : tie.invariant-loop
+abbrev invariant-loop : tie.invariant-loop-left
 invariant-loop kind file at place₀ left₀ place left =
     (place + 5 * left ≤ place₀ + 5 * left₀)
     × (all_sources (source_rule kind) file (at + first_source kind) (sources (form_of kind)) ≡ all_sources (source_rule kind) file place left)
 
-abbrev decreases-loop : tie.decreases-loop
+abbrev decreases-loop : tie.decreases-loop-left
 decreases-loop kind file at place₀ left₀ place left = left
 
 pub sources_allowed_spec : {M : Type 1} → statement M

@@ -8,10 +8,10 @@ use Rattle.readers.proofs.Bytes.{UpTo, up_to_none, up_to_next, up_to_end}
 use Rattle.readers.proofs.all_bytes.Statement.{statement}
 use Rattle.readers.proofs.all_bytes.Tie as tie
 
-abbrev invariant-loop : tie.invariant-loop
+abbrev invariant-loop : tie.invariant-loop-i
 invariant-loop bytes i₀ i = UpTo bytes i
 
-abbrev decreases-loop : tie.decreases-loop
+abbrev decreases-loop : tie.decreases-loop-i
 decreases-loop bytes i₀ i = length bytes - i
 
 pub all_bytes_spec : {M : Type 1} → statement M

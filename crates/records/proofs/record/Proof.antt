@@ -11,8 +11,8 @@ record_spec =
     tie.close
     (tie.spec
     (search rules)
-    (λ c. omega (arith, part_fits _ _ _ c.before.record-bounds.ensures))
+    (λ c. omega (arith, part_fits _ _ _ c.before.record_bounds-bounds.ensures))
     (search rules)
     (search rules)
-    (λ c. omega (arith, part_fits _ _ _ c.before.record-bounds.ensures))
+    (λ c. omega (arith, part_fits _ _ _ c.before.record_bounds-bounds.ensures))
     (λ c. search (rules, part_bytes, part_place)))

@@ -10,10 +10,10 @@ use Rattle.records.proofs.Walk.{bounds_long, bounds_none, bounds_found, start_pl
 use Rattle.records.proofs.record_bounds.Statement.{statement}
 use Rattle.records.proofs.record_bounds.Tie as tie
 
-abbrev invariant-loop : tie.invariant-loop
+abbrev invariant-loop : tie.invariant-loop-i
 invariant-loop file n end at₀ i₀ at i = (i ≤ n) × (at ≤ length file) × (length file ≤ longest) × (at ≡ place_from file 0 i)
 
-abbrev decreases-loop : tie.decreases-loop
+abbrev decreases-loop : tie.decreases-loop-i
 decreases-loop file n end at₀ i₀ at i = n - i
 
 pub record_bounds_spec : {M : Type 1} → statement M

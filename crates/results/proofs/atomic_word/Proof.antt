@@ -23,4 +23,4 @@ atomic_word_spec =
     (λ c. search (rules, atomic_at 0x5d (λ a b. refl)))
     (λ c. search (rules, atomic_at 0x5e (λ a b. refl)))
     (λ c. search (rules, atomic_at 0x5f (λ a b. refl)))
-    (λ c. none_of 0x56 9 _ _ c.match.rest))
+    (λ c. none_of 0x56 9 _ _ c.in_default.in_default-own.rest))

@@ -56,4 +56,4 @@ word_spec =
     (λ c. search (rules, ternary_at 0x62))
     (λ c. search (rules, ternary_at 0x63))
     (λ c. search (rules, bfi_is))
-    (λ c. no_word _ _ _ _ _ c.match.rest))
+    (λ c. no_word _ _ _ _ _ c.in_default.in_default-own.rest))

@@ -10,13 +10,13 @@ use Rattle.spelling.proofs.Records.{bytes_left, fields_next, length_next, fields
 use Rattle.spelling.proofs.put_fields.Statement.{statement}
 use Rattle.spelling.proofs.put_fields.Tie as tie
 
-abbrev invariant-loop : tie.invariant-loop
+abbrev invariant-loop : tie.invariant-loop-i
 invariant-loop kind line from output₀ at₀ size₀ i₀ output at size i =
     (sets output size (bytes_left kind line at i) ≡ sets output₀ 1 (bytes_left kind line from 0))
     × (size + length (bytes_left kind line at i) ≡ 1 + length (bytes_left kind line from 0))
     × (size ≤ 1 + 255 * i) × (at ≤ length line) × (length output ≡ length output₀)
 
-abbrev decreases-loop : tie.decreases-loop
+abbrev decreases-loop : tie.decreases-loop-i
 decreases-loop kind line from output₀ at₀ size₀ i₀ output at size i = 19 - i
 
 pub put_fields_spec : {M : Type 1} → statement M

@@ -11,12 +11,12 @@ use Rattle.spelling.proofs.Records.{bytes_start, bytes_next, bytes_put}
 use Rattle.spelling.proofs.put_number.Statement.{statement}
 use Rattle.spelling.proofs.put_number.Tie as tie
 
-abbrev invariant-loop : tie.invariant-loop
+abbrev invariant-loop : tie.invariant-loop-i
 invariant-loop n width output₀ at rest₀ i₀ output rest i =
     (sets output (at + i) (little_endian (width - i) rest) ≡ sets output₀ at (little_endian width n))
     × (i ≤ width) × (length output ≡ length output₀)
 
-abbrev decreases-loop : tie.decreases-loop
+abbrev decreases-loop : tie.decreases-loop-i
 decreases-loop n width output₀ at rest₀ i₀ output rest i = width - i
 
 pub put_number_spec : {M : Type 1} → statement M

@@ -6,10 +6,10 @@ use Rattle.stack.specs.Arrays.{some_is, some_code}
 use Rattle.stack.proofs.some_is.Statement.{statement}
 use Rattle.stack.proofs.some_is.Tie as tie
 
-abbrev invariant-loop : tie.invariant-loop
+abbrev invariant-loop : tie.invariant-loop-n
 invariant-loop b lo hi n₀ n = some_is lo hi b ≡ some_code lo hi b.codes n
 
-abbrev decreases-loop : tie.decreases-loop
+abbrev decreases-loop : tie.decreases-loop-n
 decreases-loop b lo hi n₀ n = n
 
 pub some_is_spec : {M : Type 1} → statement M

@@ -78,8 +78,8 @@ block-Inv-loop kinds places work₀ n targets m₀ work m =
 abbrev block-μ-loop : block-lts.decreases-loop
 block-μ-loop kinds places work₀ n targets m₀ work m = length kinds - m
 
-pub +block-opening-spec : {M : Type 1} → statement M
-+block-opening-spec =
+pub +block_opening_spec : {M : Type 1} → statement M
++block_opening_spec =
     close μ-block μ-opening
     (λ t. block-lts.spec (block_claims t) (block_at t) block.Post block-Inv-loop block-μ-loop
     (λ c. search rules)

@@ -8,11 +8,11 @@ use Rattle.tree.specs.Search.{ending, place_in}
 use Rattle.tree.proofs.place_of.Statement.{statement}
 use Rattle.tree.proofs.place_of.Tie as tie
 
-abbrev invariant-loop : tie.invariant-loop
+abbrev invariant-loop : tie.invariant-loop-depth
 invariant-loop values links from end x node₀ depth₀ node depth =
     (depth ≤ 33) × (place_in values links from end x ≡ ending values links x (33 - depth) node depth)
 
-abbrev decreases-loop : tie.decreases-loop
+abbrev decreases-loop : tie.decreases-loop-depth
 decreases-loop values links from end x node₀ depth₀ node depth = 33 - depth
 
 pub place_of_spec : {M : Type 1} → statement M

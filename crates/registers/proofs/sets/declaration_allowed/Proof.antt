@@ -10,4 +10,4 @@ declaration_allowed_spec =
     tie.close
     (tie.spec
     (search rules) (search rules)
-    (λ c. rw c.registers-of.ensures))
+    (λ c. rw c.registers_of.ensures))

@@ -9,11 +9,11 @@ use Rattle.registers.specs.Sets.{any_of}
 use Rattle.registers.proofs.sets.has_any.Statement.{statement}
 use Rattle.registers.proofs.sets.has_any.Tie as tie
 
-abbrev invariant-loop : tie.invariant-loop
+abbrev invariant-loop : tie.invariant-loop-i
 invariant-loop words first last end i₀ i =
     any_of (bit_in words) first (last + 1 - first) ≡ any_of (bit_in words) i (last + 1 - i)
 
-abbrev decreases-loop : tie.decreases-loop
+abbrev decreases-loop : tie.decreases-loop-i
 decreases-loop words first last end i₀ i = last + 1 - i
 
 pub has_any_spec : {M : Type 1} → statement M

@@ -11,11 +11,11 @@ use Rattle.registers.specs.Sets.{any_of}
 use Rattle.registers.proofs.sets.has_some.Statement.{statement}
 use Rattle.registers.proofs.sets.has_some.Tie as tie
 
-abbrev invariant-loop : tie.invariant-loop
+abbrev invariant-loop : tie.invariant-loop-i
 invariant-loop words i₀ i =
     any_of (bit_in words) 0 (32 * length words) ≡ any_of (bit_in words) (32 * i) (32 * (length words - i))
 
-abbrev decreases-loop : tie.decreases-loop
+abbrev decreases-loop : tie.decreases-loop-i
 decreases-loop words i₀ i = length words - i
 
 pub has_some_spec : {M : Type 1} → statement M

@@ -9,11 +9,11 @@ use Rattle.words.specs.Word.{bit_in}
 use Rattle.registers.proofs.sets.set_bits.Statement.{statement}
 use Rattle.registers.proofs.sets.set_bits.Tie as tie
 
-abbrev invariant-loop : tie.invariant-loop
+abbrev invariant-loop : tie.invariant-loop-i
 invariant-loop words₀ first last end i₀ words i =
     (first ≤ i) × (i ≤ last + 1) × (length words ≡ length words₀) × (bit_in words ≡ below (bit_in words₀) first i)
 
-abbrev decreases-loop : tie.decreases-loop
+abbrev decreases-loop : tie.decreases-loop-i
 decreases-loop words₀ first last end i₀ words i = last + 1 - i
 
 pub set_bits_spec : {M : Type 1} → statement M

@@ -15,4 +15,4 @@ wide_unary_value_spec =
     (λ c. search (rules, wide_unary_at 0x1b (λ a. refl)))
     (λ c. search (rules, wide_unary_at 0x1c (λ a. refl)))
     (λ c. search (rules, wide_unary_at 0x1d (λ a. refl)))
-    (λ c. none_of 0x1B 2 _ _ c.match.rest))
+    (λ c. none_of 0x1B 2 _ _ c.in_default.in_default-own.rest))

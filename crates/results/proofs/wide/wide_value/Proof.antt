@@ -34,4 +34,4 @@ wide_value_spec =
     (λ c. search (rules, wide_at 0x50 (λ a b. refl)))
     (λ c. search (rules, wide_at 0x51 (λ a b. refl), flagged))
     (λ c. search (rules, wide_at 0x52 (λ a b. refl), flagged_not))
-    (λ c. none_of 0x40 18 _ _ c.match.rest))
+    (λ c. none_of 0x40 18 _ _ c.in_default.in_default-own.rest))

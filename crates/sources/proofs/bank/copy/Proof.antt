@@ -9,7 +9,7 @@ use Rattle.sources.proofs.Gather.{copy_none, copy_more, copy_end}
 use Rattle.sources.proofs.bank.copy.Statement.{statement}
 use Rattle.sources.proofs.bank.copy.Tie as tie
 
-abbrev invariant-loop : tie.invariant-loop
+abbrev invariant-loop : tie.invariant-loop-i
 invariant-loop bank₀ from words i₀ bank i =
     (i ≤ length words)
     × (from + length words ≤ 5288)
@@ -17,7 +17,7 @@ invariant-loop bank₀ from words i₀ bank i =
     × (length bank ≡ 5288)
     × (bank ≡ paste bank₀ from words i)
 
-abbrev decreases-loop : tie.decreases-loop
+abbrev decreases-loop : tie.decreases-loop-i
 decreases-loop bank₀ from words i₀ bank i = length words - i
 
 pub copy_spec : {M : Type 1} → statement M

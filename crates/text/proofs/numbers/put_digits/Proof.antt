@@ -10,13 +10,13 @@ use Rattle.text.proofs.Decimals.{digits_left, digits_fewer, digits_more, digits_
 use Rattle.text.proofs.numbers.put_digits.Statement.{statement}
 use Rattle.text.proofs.numbers.put_digits.Tie as tie
 
-abbrev invariant-loop : tie.invariant-loop
+abbrev invariant-loop : tie.invariant-loop-rest
 invariant-loop n count output₀ at rest₀ k₀ output rest k =
     (length output ≡ length output₀)
     × (k ≡ length (decimal rest))
     × (sets output at (decimal rest) ≡ sets output₀ at (decimal n))
 
-abbrev decreases-loop : tie.decreases-loop
+abbrev decreases-loop : tie.decreases-loop-rest
 decreases-loop n count output₀ at rest₀ k₀ output rest k = rest
 
 pub put_digits_spec : {M : Type 1} → statement M

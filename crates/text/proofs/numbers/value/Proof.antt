@@ -10,13 +10,13 @@ use Rattle.text.proofs.Values.{value_more, value_end}
 use Rattle.text.proofs.numbers.value.Statement.{statement}
 use Rattle.text.proofs.numbers.value.Tie as tie
 
-abbrev invariant-loop : tie.invariant-loop
+abbrev invariant-loop : tie.invariant-loop-i
 invariant-loop bytes v₀ i₀ v i =
     (i ≤ length bytes)
     × (v < 2 ^ 32)
     × (value_from v (drop i bytes) % 2 ^ 32 ≡ value_from 0 bytes % 2 ^ 32)
 
-abbrev decreases-loop : tie.decreases-loop
+abbrev decreases-loop : tie.decreases-loop-i
 decreases-loop bytes v₀ i₀ v i = length bytes - i
 
 pub value_spec : {M : Type 1} → statement M

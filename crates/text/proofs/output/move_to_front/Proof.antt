@@ -10,14 +10,14 @@ use Rattle.text.proofs.Moves.{rest_stays, moved_more, moved_all}
 use Rattle.text.proofs.output.move_to_front.Statement.{statement}
 use Rattle.text.proofs.output.move_to_front.Tie as tie
 
-abbrev invariant-loop : tie.invariant-loop
+abbrev invariant-loop : tie.invariant-loop-at
 invariant-loop text₀ from to₀ at₀ text to at =
     (at ≡ from + to)
     × (drop to text ≡ drop to text₀)
     × (sets text (0 + to) (drop to (drop from text₀)) ≡ sets text₀ 0 (drop from text₀))
     × (length text ≡ length text₀)
 
-abbrev decreases-loop : tie.decreases-loop
+abbrev decreases-loop : tie.decreases-loop-at
 decreases-loop text₀ from to₀ at₀ text to at = length text₀ - at
 
 pub move_to_front_spec : {M : Type 1} → statement M

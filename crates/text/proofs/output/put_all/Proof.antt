@@ -10,13 +10,13 @@ use Rattle.text.proofs.Stores.{sets_begin, sets_more, sets_end}
 use Rattle.text.proofs.output.put_all.Statement.{statement}
 use Rattle.text.proofs.output.put_all.Tie as tie
 
-abbrev invariant-loop : tie.invariant-loop
+abbrev invariant-loop : tie.invariant-loop-i
 invariant-loop output₀ at bytes i₀ output i =
     (i ≤ length bytes)
     × (length output ≡ length output₀)
     × (sets output (at + i) (drop i bytes) ≡ sets output₀ at bytes)
 
-abbrev decreases-loop : tie.decreases-loop
+abbrev decreases-loop : tie.decreases-loop-i
 decreases-loop output₀ at bytes i₀ output i = length bytes - i
 
 pub put_all_spec : {M : Type 1} → statement M

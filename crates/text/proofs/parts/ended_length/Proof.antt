@@ -10,10 +10,10 @@ use Rattle.text.proofs.Ends.{ended_start, ended_none, ended_here, ended_next}
 use Rattle.text.proofs.parts.ended_length.Statement.{statement}
 use Rattle.text.proofs.parts.ended_length.Tie as tie
 
-abbrev invariant-loop : tie.invariant-loop
+abbrev invariant-loop : tie.invariant-loop-end
 invariant-loop bytes separator end₀ end = (end ≤ length bytes) × (ended_length separator (take end bytes) ≡ ended_length separator bytes)
 
-abbrev decreases-loop : tie.decreases-loop
+abbrev decreases-loop : tie.decreases-loop-end
 decreases-loop bytes separator end₀ end = end
 
 pub ended_length_spec : {M : Type 1} → statement M

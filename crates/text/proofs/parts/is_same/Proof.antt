@@ -11,10 +11,10 @@ use Rattle.text.proofs.Sameness.{differ_long, same_more, same_not, same_end}
 use Rattle.text.proofs.parts.is_same.Statement.{statement}
 use Rattle.text.proofs.parts.is_same.Tie as tie
 
-abbrev invariant-loop : tie.invariant-loop
+abbrev invariant-loop : tie.invariant-loop-i
 invariant-loop a b i₀ i = (i ≤ length a) × (length a ≡ length b) × (same (drop i a) (drop i b) ≡ same a b)
 
-abbrev decreases-loop : tie.decreases-loop
+abbrev decreases-loop : tie.decreases-loop-i
 decreases-loop a b i₀ i = length a - i
 
 pub is_same_spec : {M : Type 1} → statement M

@@ -10,12 +10,12 @@ use Rattle.text.proofs.Splitting.{part_start, part_here, part_more, part_end}
 use Rattle.text.proofs.parts.part_length.Statement.{statement}
 use Rattle.text.proofs.parts.part_length.Tie as tie
 
-abbrev invariant-loop : tie.invariant-loop
+abbrev invariant-loop : tie.invariant-loop-i
 invariant-loop bytes separator i₀ i =
     (i ≤ length bytes)
     × (i + length (first (split separator (drop i bytes))) ≡ length (first (split separator bytes)))
 
-abbrev decreases-loop : tie.decreases-loop
+abbrev decreases-loop : tie.decreases-loop-i
 decreases-loop bytes separator i₀ i = length bytes - i
 
 pub part_length_spec : {M : Type 1} → statement M
