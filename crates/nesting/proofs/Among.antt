@@ -1,7 +1,7 @@
 -- The search for a word says whether it is one of a SWITCH's, as the list of them does.
 -- Assumes nothing.
 use mathlib.Core.Path.{◌≡◌, refl, sym, ◌∙◌, subst}
-use mathlib.Core.Bool.{true, false, or_true}
+use mathlib.Core.Bool.{true, false, or-true}
 use mathlib.Core.List.{List}
 use mathlib.Core.Logic.{⊎_elim}
 use Prim.Native.Nat.{ℕ, zero, suc, ◌+◌, ◌-◌, ◌^◌, ◌<◌, ◌≤◌}
@@ -22,7 +22,7 @@ some_at : (x from j : ℕ) (values : List ℕ) (n : ℕ) → j < n → x ≡ get
 some_at x from j values zero h e = absurd (omega arith)
 some_at x from j values (suc n) h e =
     ⊎_elim (λ q. let p : j ≡ n = omega arith in rw (eq-eqb x (get_or values (from + n) 0) (rw p at e)))
-    (λ l. rw (some_at x from j values n (omega arith) e) (or_true (eqb x (get_or values (from + n) 0)))) (eq-or-lt_of_le h)
+    (λ l. rw (some_at x from j values n (omega arith) e) (or-true (eqb x (get_or values (from + n) 0)))) (eq-or-lt_of_le h)
 
 some_none : (x from : ℕ) (values : List ℕ) (n : ℕ) → ((j : ℕ) → j < n → x ≡ get_or values (from + j) 0 → ⊥) → some (eqb x) (newest_first values from n) ≡ false
 some_none x from values zero h = refl

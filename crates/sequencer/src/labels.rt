@@ -8,7 +8,7 @@ ghost use Rattle.sequencer.specs.Inner.Cases.{is_case_at};
 
 use crate::prepared::{label_of, place_of};
 use blocks::MOST_INSTRUCTIONS;
-use blocks::control::{CASE, DEFAULT};
+use blocks::control;
 use readers::{byte_at, case_word};
 
 // The instruction after m where that is the CASE of x, else 0. Its record begins at a place of the file with this kind.
@@ -16,7 +16,7 @@ fn after_case(file: &[u8], immediates: &[u32], place: usize, kind: u8, x: u32, m
     requires { kind ≡ get_or file.now place 0 }
     ensures { result ≡ cond (is_case_at immediates.now file.now place x) (suc m) 0 }
 {
-    if kind == CASE {
+    if kind == control::CASE {
         if case_word(immediates, file, place) == x {
             return m as usize + 1;
         }
@@ -28,7 +28,7 @@ fn after_case(file: &[u8], immediates: &[u32], place: usize, kind: u8, x: u32, m
 fn after_default(kind: u8, m: u32, other: usize) -> usize
     ensures { result ≡ cond (is DEFAULT (op_of kind)) (suc m) other }
 {
-    if kind == DEFAULT {
+    if kind == control::DEFAULT {
         return m as usize + 1;
     }
     other

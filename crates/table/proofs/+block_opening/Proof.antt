@@ -67,7 +67,7 @@ opening_claims t = (
   block.Post,
 )
 
-abbrev block-Inv-loop : block-lts.invariant-loop
+abbrev block-Inv-loop : block-lts.invariant-loop-m
 block-Inv-loop kinds places work₀ n targets m₀ work m =
     (n ≤ m)
     × (length work ≡ length work₀)
@@ -75,7 +75,7 @@ block-Inv-loop kinds places work₀ n targets m₀ work m =
     × (sets work (row_words * m) (words_in kinds places targets m (list_in kinds m))
     ≡ sets work₀ (row_words * n) (words_in kinds places targets n (list_in kinds n)))
 
-abbrev block-μ-loop : block-lts.decreases-loop
+abbrev block-μ-loop : block-lts.decreases-loop-m
 block-μ-loop kinds places work₀ n targets m₀ work m = length kinds - m
 
 pub +block_opening_spec : {M : Type 1} → statement M

@@ -9,13 +9,13 @@ use Rattle.table.proofs.Located.{located_none, located_all, place_start, place_w
 use Rattle.table.proofs.locate.Statement.{statement}
 use Rattle.table.proofs.locate.Tie as tie
 
-abbrev invariant-loop : tie.invariant-loop
+abbrev invariant-loop : tie.invariant-loop-n
 invariant-loop file start count kinds₀ places₀ at₀ n₀ kinds places at n =
     (n ≤ count)
     × (at ≡ place_from file start n)
     × Located file start n kinds places
 
-abbrev decreases-loop : tie.decreases-loop
+abbrev decreases-loop : tie.decreases-loop-n
 decreases-loop file start count kinds₀ places₀ at₀ n₀ kinds places at n = count - n
 
 pub locate_spec : {M : Type 1} → statement M

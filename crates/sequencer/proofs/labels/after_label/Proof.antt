@@ -8,12 +8,12 @@ use Rattle.sequencer.proofs.Walks.{label_found, label_on, label_passed, walk_end
 use Rattle.sequencer.proofs.labels.after_label.Statement.{statement}
 use Rattle.sequencer.proofs.labels.after_label.Tie as tie
 
-abbrev invariant-loop : tie.invariant-loop
+abbrev invariant-loop : tie.invariant-loop-left
 invariant-loop file rows immediates x label jump m₀ other₀ left₀ m other left =
     walk (ops_of file (place_in rows)) (cases_of immediates file (place_in rows)) (row_in rows) left x m other
     ≡ walk (ops_of file (place_in rows)) (cases_of immediates file (place_in rows)) (row_in rows) most_instructions x label jump
 
-abbrev decreases-loop : tie.decreases-loop
+abbrev decreases-loop : tie.decreases-loop-left
 decreases-loop file rows immediates x label jump m₀ other₀ left₀ m other left = left
 
 pub after_label_spec : {M : Type 1} → statement M
