@@ -5,7 +5,7 @@ ghost use Rattle.format.specs.Kinds.{length_of, is_known, form_of, destinations,
 // What the table holds for an unknown kind.
 pub const UNKNOWN: u8 = 255;
 
-// "Body length comes from a table of 256 entries, one per kind byte, unknown kinds marked." One kind a line, from 0.
+// "Body length comes from a table of 256 entries, one per kind byte, unknown kinds marked." In the order of the kinds, from 0.
 const LENGTHS: [u8; 256] = [
     255, 5, 16, 255, 255, 255, 255, 255, 255, 255, 255, 255, 255, 255, 255, 255, 9, 9, 9, 9, 9, 9,
     9, 9, 9, 9, 9, 9, 9, 9, 9, 255, 14, 14, 14, 14, 14, 14, 14, 14, 14, 14, 14, 14, 14, 14, 14, 14,

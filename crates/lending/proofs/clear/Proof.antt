@@ -9,14 +9,14 @@ use Rattle.lending.proofs.Copies.{registers_fit, clear_more, clear_end}
 use Rattle.lending.proofs.clear.Statement.{statement}
 use Rattle.lending.proofs.clear.Tie as tie
 
-abbrev invariant-loop : tie.invariant-loop
+abbrev invariant-loop : tie.invariant-loop-i
 invariant-loop registers₀ end i₀ registers i =
     (i ≤ end)
     × (end ≤ length registers₀)
     × (length registers ≡ length registers₀)
     × (registers ≡ replicate i 0 ++ drop i registers₀)
 
-abbrev decreases-loop : tie.decreases-loop
+abbrev decreases-loop : tie.decreases-loop-i
 decreases-loop registers₀ end i₀ registers i = end - i
 
 pub clear_spec : {M : Type 1} → statement M

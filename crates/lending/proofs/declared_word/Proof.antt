@@ -11,5 +11,5 @@ pub declared_word_spec : {M : Type 1} → statement M
 declared_word_spec =
     tie.close
     (tie.spec (search rules) (search rules) (search rules) (search rules)
-    (λ c. let long : length c.before.before.args.t1.consts ≡ 32 = search rules in search (rules, word_of_first))
-    (λ c. let long : length c.before.before.args.t1.consts ≡ 32 = search rules in search (rules, word_of_second)))
+    (λ c. let long : length c.before.before.args.declared.consts ≡ 32 = search rules in search (rules, word_of_first))
+    (λ c. let long : length c.before.before.args.declared.consts ≡ 32 = search rules in search (rules, word_of_second)))

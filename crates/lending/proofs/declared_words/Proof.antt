@@ -11,7 +11,7 @@ use Rattle.lending.proofs.Indirect.{copied_is}
 use Rattle.lending.proofs.declared_words.Statement.{statement}
 use Rattle.lending.proofs.declared_words.Tie as tie
 
-abbrev invariant-loop : tie.invariant-loop
+abbrev invariant-loop : tie.invariant-loop-i
 invariant-loop declared words₀ i₀ words i =
     (i ≤ 40)
     × (length declared.consts ≡ 32)
@@ -20,7 +20,7 @@ invariant-loop declared words₀ i₀ words i =
     × (length words ≡ 40)
     × (take i words ≡ take i (declared.consts ++ declared.temps))
 
-abbrev decreases-loop : tie.decreases-loop
+abbrev decreases-loop : tie.decreases-loop-i
 decreases-loop declared words₀ i₀ words i = 40 - i
 
 pub declared_words_spec : {M : Type 1} → statement M

@@ -12,4 +12,4 @@ print_spec =
     (λ c κs. search rules)
     (λ c κs. search rules)
     (search rules)
-    (λ c. (search rules, λ n is. search (rules, printed_back, c.all-bytes.ensures))))
+    (λ c. (search rules, λ n is. search (rules, printed_back, c.all_bytes.ensures))))

@@ -19,4 +19,4 @@ declaration_spec =
     (λ c κs. search rules)
     (λ c. ((λ words values. search (rules, declaration_8)), (search rules, search rules, search rules)))
     (λ c κs. search (rules, kept_rule))
-    (λ c. ((λ words values. search (rules, declaration_taken, c.with-declaration.ensures.0)), (search (rules, sound_declaration), search rules, search rules))))
+    (λ c. ((λ words values. search (rules, declaration_taken, c.with_declaration-t.ensures.0)), (search (rules, sound_declaration), search rules, search rules))))

@@ -14,4 +14,4 @@ immediate_spec =
     (λ c. ((λ values. search (rules, immediate_5)), (search rules, search rules, search rules)))
     (λ c. ((λ values. search (rules, immediate_6, immediates_counted)), (search rules, search rules, search rules)))
     (λ c κs. search rules)
-    (λ c. ((λ values. search (rules, immediate_taken, immediates_counted, c.with-immediate.ensures.0)), (search (rules, sound_immediate), search rules, search rules))))
+    (λ c. ((λ values. search (rules, immediate_taken, immediates_counted, c.with_immediate-t.ensures.0)), (search (rules, sound_immediate), search rules, search rules))))

@@ -14,4 +14,4 @@ instruction_spec =
     (λ c. (search (rules, refused_operands), (search rules, search rules, search rules)))
     (λ c κs. search rules)
     (λ c κs. search (rules, room_left))
-    (λ c. (search (rules, nested_found, c.nested-instruction.ensures.0), (search rules, search rules, search rules))))
+    (λ c. (search (rules, nested_found, c.nested_instruction.ensures.0), (search rules, search rules, search rules))))

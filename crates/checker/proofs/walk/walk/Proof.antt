@@ -10,11 +10,11 @@ use Rattle.checker.proofs.Walking.{Going, check_long, check_long_told, check_sta
 use Rattle.checker.proofs.walk.walk.Statement.{statement}
 use Rattle.checker.proofs.walk.walk.Tie as tie
 
-abbrev invariant-loop : tie.invariant-loop
+abbrev invariant-loop : tie.invariant-loop-at
 invariant-loop file words₀ values₀ links₀ end s₀ at₀ words values links s at =
     Going file at (seen s words values) × Sound s × Padded s.program.immediates words × Trees s.blocks values links × (at ≤ length file) × (length file ≤ 65536)
 
-abbrev decreases-loop : tie.decreases-loop
+abbrev decreases-loop : tie.decreases-loop-at
 decreases-loop file words₀ values₀ links₀ end s₀ at₀ words values links s at = length file - at
 
 pub walk_spec : {M : Type 1} → statement M
@@ -25,7 +25,7 @@ walk_spec =
     (λ c κs. search rules)
     (λ c. (search (rules, check_long), (search (rules, check_long_told), (search (rules, padded_same), search rules))))
     (λ c κs. search rules)
-    (λ c. (search (rules, check_start, c.started.ensures.0), search rules, search (rules, padded_same), search (rules, c.started.ensures.3), search rules, search rules))
+    (λ c. (search (rules, check_start, c.started-s.ensures.0), search rules, search (rules, padded_same), search (rules, c.started-s.ensures.3), search rules, search rules))
     (λ c κs. search rules)
     (λ c. search (rules, walk_fits))
     (λ c κs. search (rules, next_is))

@@ -11,12 +11,12 @@ use Rattle.listing.proofs.Listed.{LinesLeft, lines_start, lines_next, lines_put,
 use Rattle.listing.proofs.printing.put_listing.Statement.{statement}
 use Rattle.listing.proofs.printing.put_listing.Tie as tie
 
-abbrev invariant-loop : tie.invariant-loop
+abbrev invariant-loop : tie.invariant-loop-size
 invariant-loop file output₀ at₀ to₀ size₀ output at to size =
     LinesLeft file output₀ output at to × (size ≡ size_at file at) × (at ≤ length file) × (at + size ≤ length file) × (length file ≤ 65536)
     × (to ≤ 256 * at) × (length output ≡ length output₀)
 
-abbrev decreases-loop : tie.decreases-loop
+abbrev decreases-loop : tie.decreases-loop-size
 decreases-loop file output₀ at₀ to₀ size₀ output at to size = length file - at
 
 pub put_listing_spec : {M : Type 1} → statement M

@@ -7,10 +7,10 @@ use Rattle.listing.proofs.Texts.{TextLeft, text_start, text_cut, text_malformed,
 use Rattle.listing.proofs.reading.spell.Statement.{statement}
 use Rattle.listing.proofs.reading.spell.Tie as tie
 
-abbrev invariant-loop : tie.invariant-loop
+abbrev invariant-loop : tie.invariant-loop-at
 invariant-loop text file₀ at₀ count₀ file at count = TextLeft text file at count
 
-abbrev decreases-loop : tie.decreases-loop
+abbrev decreases-loop : tie.decreases-loop-at
 decreases-loop text file₀ at₀ count₀ file at count = length text - at
 
 pub spell_spec : {M : Type 1} → statement M
