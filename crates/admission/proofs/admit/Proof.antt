@@ -10,6 +10,6 @@ admit_spec =
     tie.close
     (tie.spec
     (search rules) (search rules) (search rules) (search rules) (search rules) (search rules)
-    (λ c. search (rules, lent_refuses, c.refused2.ensures))
+    (λ c. search (rules, lent_refuses, c.refused-then-number-ne0.ensures))
     (λ c. search (rules, check_refuses, c.refused.ensures))
     (λ c. search (rules, admits)))
