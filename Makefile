@@ -9,7 +9,7 @@
 run:
 	@echo "Proves and builds tgsi_run: 3 to 8 minutes on 2 cores where nothing is proved yet. The prover's lines are in target/run.log."
 	@mkdir -p target
-	@rt check tgsi_run >target/run.log 2>&1 || { cat target/run.log; exit 1; }
+	@scripts/build tgsi_run >target/run.log 2>&1 || { cat target/run.log; exit 1; }
 	target/bin/tgsi_run examples/measure.bin examples/comma.words
 	@echo "OUT[0].x: a measure of 2,5 millimetres is 25 tenths."
 
@@ -17,23 +17,20 @@ test:
 	scripts/test
 
 bench:
-	rt staticlib ropebonnet
+	scripts/build library
 	cd compare && cargo build --release --offline && target/release/compare bench
 	cd compare && cargo build --release --offline --features inlined --target-dir target/inlined && target/inlined/release/compare bench
 
 clean:
-	rm -rf target compare/target
+	rm -rf target compare/target crates/*/out
 
 .PHONY: build install uninstall
 PREFIX = /usr/local
 DESTDIR =
 export PREFIX DESTDIR
 
-# rt leaves a program as it is if no file that it is of has another content; install goes by times.
 build:
-	rt staticlib ropebonnet
-	rt check tgsi_run tgsi_list tgsi_read
-	@touch target/bin/tgsi_run target/bin/tgsi_list target/bin/tgsi_read
+	scripts/build library tgsi_run tgsi_list tgsi_read
 
 install:
 	scripts/install

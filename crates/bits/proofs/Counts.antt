@@ -15,7 +15,6 @@ use lib.Dec.{eqb}
 use lib.Pow.{pow_mono, shr_lt}
 use lib.Arith.{lt-one}
 use lib.Count.{leading_top, count_leading_zeros, ones, ones_step, ones_in, count_trailing_zeros, under}
-use lib.ListN.{set}
 
 -- ---- the least and the greatest, by what they are
 
