@@ -7,8 +7,7 @@ ghost use Rattle.sequencer.specs.Labels.{ops_of, cases_of};
 ghost use Rattle.sequencer.specs.Inner.Cases.{is_case_at};
 
 use crate::prepared::{label_of, place_of};
-use blocks::MOST_INSTRUCTIONS;
-use blocks::control;
+use blocks::{MOST_INSTRUCTIONS, control};
 use readers::{byte_at, case_word};
 
 // The instruction after m where that is the CASE of x, else 0. Its record begins at a place of the file with this kind.
