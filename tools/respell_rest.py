@@ -1,10 +1,11 @@
 #!/usr/bin/env python3
 """Respells the must-fail edits and the names that documents give between backquotes, as port.py and respell.py did the rest.
 
-usage: tools/respell_edits.py OLDTREE [NEWTREE]
+usage: tools/respell_rest.py OLDTREE [NEWTREE]
 
 OLDTREE is the repository before port.py. A name of OLDTREE's antt files in camel case or with dashes that NEWTREE has in snake case, and
-no longer as it was, turns in NEWTREE's .edit files; so do old spellings of the language. The words of 'old:' that still stand are left.
+no longer as it was, turns in NEWTREE's .edit files, and in documents between backquotes and in indented lines; in edits old spellings of
+the language turn too.
 """
 import os
 import re
@@ -22,6 +23,14 @@ def texts(tree, *endings):
         dirs[:] = sorted(d for d in dirs if d != "out")
         for name in sorted(names):
             if name.endswith(endings):
+                yield os.path.join(folder, name)
+
+
+def documents(tree):
+    for folder, dirs, names in os.walk(tree):
+        dirs[:] = sorted(d for d in dirs if d not in ("out", "target", ".git"))
+        for name in sorted(names):
+            if name.endswith(".md") and name != "PORT.md":
                 yield os.path.join(folder, name)
 
 
@@ -47,6 +56,18 @@ def main():
         if re.match(r"[a-z]", name) and re.fullmatch(r"[\w'-]+", name) and snake(name) != name:
             if snake(name) in now and name not in now:
                 rows[name] = snake(name)
+    for path in documents(new):
+        with open(path, encoding="utf-8") as f:
+            lines = f.read().split("\n")
+        for i, line in enumerate(lines):
+            if line.startswith("    "):
+                lines[i] = WORD.sub(lambda m: rows.get(m.group(0), m.group(0)), line)
+            else:
+                parts = line.split("`")
+                parts[1::2] = [WORD.sub(lambda m: rows.get(m.group(0), m.group(0)), p) for p in parts[1::2]]
+                lines[i] = "`".join(parts)
+        with open(path, "w", encoding="utf-8") as f:
+            f.write("\n".join(lines))
     for path in texts(new, ".edit"):
         with open(path, encoding="utf-8") as f:
             lines = f.read().split("\n")
