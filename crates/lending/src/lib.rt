@@ -9,7 +9,7 @@ ghost use Rattle.lending.specs.Lent.{asked_indirectly, bank_env, zeroed};
 
 use format::files::REGISTER_WORDS;
 use registers::sets::Declared;
-use sources::bank::{Bank, gather};
+use sources::bank::{BANK_WORDS, Bank, gather_into};
 
 // How many of so many lent words are words of registers.
 fn register_words(lent: usize) -> usize
@@ -58,7 +58,21 @@ fn declared_words(declared: Declared) -> [u32; 40]
     words
 }
 
-// The bank of a program's declared sets and immediates, and of the lent inputs and constants.
+// Gathers into a bank, whatever it held, a program's declared sets and immediates, and the lent inputs and constants.
+pub fn bank_into(
+    bank: &mut Bank,
+    declared: Declared,
+    immediates: &[u32; 1024],
+    inputs: &[u32],
+    constants: &[u32],
+)
+    ensures { env_in bank.new ≡ bank_env (is_in declared) immediates.now inputs.now constants.now }
+{
+    let bits = declared_words(declared);
+    gather_into(bank, &bits, immediates, inputs, constants);
+}
+
+// The bank of these. A bank that is returned is copied: a run gathers into its own.
 pub fn bank_of(
     declared: Declared,
     immediates: &[u32; 1024],
@@ -67,6 +81,7 @@ pub fn bank_of(
 ) -> Bank
     ensures { env_in result ≡ bank_env (is_in declared) immediates.now inputs.now constants.now }
 {
-    let bits = declared_words(declared);
-    gather(&bits, immediates, inputs, constants)
+    let mut bank = [0u32; BANK_WORDS];
+    bank_into(&mut bank, declared, immediates, inputs, constants);
+    bank
 }

@@ -14,9 +14,9 @@ ghost use Rattle.running.specs.Inner.Came.{Came};
 use checker::program::Program;
 use execution::Stop;
 use execution::steps::carry_out;
-use lending::{bank_of, clear};
+use lending::{bank_into, clear};
 use preparation::write_table;
-use sources::bank::Bank;
+use sources::bank::{BANK_WORDS, Bank};
 
 // Clears the registers and carries out by the rows.
 fn carry_out_cleared(
@@ -49,7 +49,8 @@ pub fn carry_out_program(
     ensures came { reached result (state registers.new memory.new) ≡ by_rows file.now work.new (bank_env (is_in program.declared) immediates.now inputs.now constants.now) budget 0 0 (state (zeroed registers.old) memory.old) }
 {
     let declared = program.declared;
-    let bank = bank_of(declared, immediates, inputs, constants);
+    let mut bank = [0u32; BANK_WORDS];
+    bank_into(&mut bank, declared, immediates, inputs, constants);
     write_table(file, program, work);
     carry_out_cleared(file, work, &bank, registers, memory, budget)
 }

@@ -2,13 +2,14 @@
 -- Assumes nothing.
 use mathlib.Core.Path.{◌≡◌, refl, sym, ap, ◌∙◌, fun_ext}
 use mathlib.Core.Bool.{Bool, true, false, cond, ◌&&◌}
-use mathlib.Core.List.{List, [], ◌++◌}
+use mathlib.Core.List.{List, [], ◌++◌, append-nil}
 use Prim.Native.Nat.{ℕ, ◌+◌, ◌-◌, ◌/◌, ◌%◌, ◌<◌, ◌≤◌}
 use native.Mathlib.Omega.{arith}
 use native.Mathlib.Nat.{min-eq_left, min-le_left}
 use native.Mathlib.Numerals.{add-one}
 use borrow.Author.Tests.{ltb-true, ltb-false}
 use lib.Dec.{eqb, ltb}
+use Rattle.std.proofs.lemmas.List.{drop_all}
 use lib.ListN.{length, get_or, set, take, drop, replicate, length-replicate, length-take, get_or-replicate, get_or-append, get_or-eq_default}
 use lib.Seq.{get_or-append-add, get_or-drop, get_or-take, length-paste, length_paste_head, paste, paste-suc, paste-zero, take_all}
 use Rattle.words.specs.Word.{bit_in, is_set}
@@ -76,6 +77,13 @@ module _ (d : List ℕ) (from : ℕ) (words : List ℕ) where
   copy_end l i a b e =
       let all : i ≡ length words = omega arith in
       e ∙ ap (paste d from words) all
+
+-- ---- A bank that is made 0
+
+pub all_zero : (bank left : List ℕ) (i : ℕ) → length left ≡ 5288 → i ≤ 5288 → 5288 ≤ i → bank ≡ replicate i 0 ++ drop i left → bank ≡ replicate 5288 0
+all_zero bank left i long a b e =
+    let all : i ≡ 5288 = omega arith in
+    e ∙ ap (λ (n : ℕ). replicate n 0 ++ drop n left) all ∙ ap (λ (q : List ℕ). replicate 5288 0 ++ q) (drop_all 5288 left (omega arith)) ∙ append-nil (replicate 5288 0)
 
 -- ---- What a part of the bank holds
 

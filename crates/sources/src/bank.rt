@@ -1,6 +1,6 @@
 // The bank: what a program reads and never writes, in one array: CONST, IN and IMM, four words a register, and then one bit for each
 // CONST and each TEMP register that is declared.
-ghost use Rattle.std.specs.Prelude.{◌≡◌, ◌+◌, ◌≤◌, length, take};
+ghost use Rattle.std.specs.Prelude.{◌≡◌, ◌+◌, ◌≤◌, length, take, replicate};
 ghost use Rattle.sources.specs.Operands.{env_with};
 ghost use Rattle.sources.specs.Bank.{declared_in, env_in};
 ghost use Rattle.sources.specs.Inner.Laid.{laid};
@@ -53,14 +53,38 @@ fn lay(bank: &mut Bank, from: usize, most: usize, words: &[u32])
     copy(bank, from, at_most(words, most));
 }
 
-// The bank of what is lent to be read: no more words of a part than it has registers for.
+// Makes a bank 0.
+fn clear(bank: &mut Bank)
+    requires { length bank.old ≡ 5288 }
+    ensures { bank.new ≡ replicate 5288 0 }
+{
+    for word in bank.iter_mut() {
+        *word = 0;
+    }
+}
+
+// Gathers what is lent to be read into a bank, whatever it held: no more words of a part than it has registers for.
+pub fn gather_into(
+    bank: &mut Bank,
+    bits: &[u32; 40],
+    immediates: &[u32; 1024],
+    inputs: &[u32],
+    constants: &[u32],
+)
+    ensures { env_in bank.new ≡ env_with (declared_in bits.now) immediates.now (take 128 inputs.now) (take 4096 constants.now) }
+{
+    clear(bank);
+    lay(bank, CONST_AT, CONST_WORDS, constants);
+    lay(bank, IN_AT, IN_WORDS, inputs);
+    lay(bank, IMM_AT, IMM_WORDS, &immediates[..]);
+    lay(bank, DECLARED_AT, DECLARED_WORDS, &bits[..]);
+}
+
+// The bank of what is lent to be read. A bank that is returned is copied: a run gathers into its own.
 pub fn gather(bits: &[u32; 40], immediates: &[u32; 1024], inputs: &[u32], constants: &[u32]) -> Bank
     ensures { env_in result ≡ env_with (declared_in bits.now) immediates.now (take 128 inputs.now) (take 4096 constants.now) }
 {
     let mut bank = [0u32; BANK_WORDS];
-    lay(&mut bank, CONST_AT, CONST_WORDS, constants);
-    lay(&mut bank, IN_AT, IN_WORDS, inputs);
-    lay(&mut bank, IMM_AT, IMM_WORDS, &immediates[..]);
-    lay(&mut bank, DECLARED_AT, DECLARED_WORDS, &bits[..]);
+    gather_into(&mut bank, bits, immediates, inputs, constants);
     bank
 }

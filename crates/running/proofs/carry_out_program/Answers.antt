@@ -3,4 +3,4 @@ use Rattle.running.proofs.Cleared.{came_by_bank}
 use Rattle.running.proofs.carry_out_program.Goals as goal
 
 pub returns-clause-came : goal.returns-clause-came
-returns-clause-came c = came_by_bank _ _ _ _ _ _ _ _ _ _ _ _ _ c.bank_of-bank.ensures c.carry_out_cleared.ensures
+returns-clause-came c = came_by_bank _ _ _ _ _ _ _ _ _ _ _ _ _ c.bank_into.ensures c.carry_out_cleared.ensures
