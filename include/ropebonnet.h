@@ -25,8 +25,8 @@
  * that it compares. At that the largest budget comes to 20 seconds of an empty loop, and to over an hour of a SWITCH
  * with 1,000 labels. A read takes as long as its listing goes on: up to 14 nanoseconds a byte, so 4 milliseconds for
  * one of ROPEBONNET_LONGEST_LISTING bytes. Every other call, and a run up to its first step, takes under a millisecond.
- * This was measured on one machine, with the largest files among others, and is not proved; proved is that a run
- * carries out no more steps than its budget.
+ * This was measured on one machine with an older compiler, with the largest files among others, and is not proved;
+ * proved is that a run carries out no more steps than its budget.
  *
  * Where it is built. `make build` in its repository proves it and writes target/staticlib/libropebonnet.a;
  * `make install` installs what `make build` wrote.
@@ -58,14 +58,14 @@ extern "C" {
 
 /* Bytes of stack that a call takes at most, from the caller's stack pointer down: its return address and the arguments
  * that do not go in registers are among them. A refusal may take as much as a run. They are measured and not proved;
- * each is at least an eighth more than the most that was seen, since another compiler may lay frames out otherwise. Not
- * among them is what a signal handler takes on the same stack, what the host's memcpy and memset take beyond 64 bytes,
+ * each is at least a sixteenth more than the most that was seen, since another compiler may lay frames out otherwise.
+ * Not among them is what a signal handler takes on the same stack, what the host's memcpy and memset take beyond 64 bytes,
  * and what a dynamic linker takes that looks these up at their first call (some thousand bytes; none if linked with
  * -z now or statically).
  */
 #define ROPEBONNET_CHECK_STACK 16384u
 #define ROPEBONNET_NEEDS_STACK 16384u
-#define ROPEBONNET_PREPARE_STACK 32768u
+#define ROPEBONNET_PREPARE_STACK 20480u
 #define ROPEBONNET_RUN_STACK 81920u
 #define ROPEBONNET_RECORD_STACK 512u
 #define ROPEBONNET_PRINT_STACK 16384u

@@ -1,6 +1,6 @@
 /* The header's bytes of stack. Each call is made on a stack of its own that was painted before, with programs that take
  * much: what lies between the caller's stack pointer and the lowest byte that changed was taken. A call that takes more
- * than the header says fails, and so does a figure that leaves less than an eighth of it to spare or is over twice as
+ * than the header says fails, and so does a figure that leaves less than a sixteenth of it to spare or is over twice as
  * much. Then each call is made again on a stack of so many bytes with a page below it that cannot be touched.
  *
  * Linked with -z now: looking up memcpy at its first call is not the library's.
@@ -318,8 +318,9 @@ static void expect_figure(uint8_t *stack, const struct figure *f)
     size_t bytes = most_taken(stack, f);
     printf("stack: %s takes %zu of %zu bytes\n", f->name, bytes, f->bytes);
     EXPECT(bytes <= f->bytes, "%s takes more than the header says", f->name);
-    EXPECT(bytes + bytes / 8 <= f->bytes, "%s has not an eighth to spare, as the header says", f->name);
-    EXPECT(bytes > f->bytes / 2, "the header says over twice what %s takes", f->name);
+    EXPECT(bytes + bytes / 16 <= f->bytes, "%s has not a sixteenth to spare, as the header says", f->name);
+    /* Of a call that takes next to nothing the header does not say so. */
+    EXPECT(bytes > f->bytes / 2 || f->bytes <= 512, "the header says over twice what %s takes", f->name);
 }
 
 /* Calls with the stack pointer so many bytes above a page that cannot be touched, or 8 less for its alignment: `frame`

@@ -130,7 +130,7 @@ first_malformed text n e some long = by (ltb n (length text)) refl where
       let all : n ≡ length text = omega (arith, ltb-false n (length text) t, split_within line_feed text n e) in
       rw (split_last line_feed text n e all) (unended_line text some)
 
--- A text's front without a line feed, which is all of the text or longer than a well_formed_is line, begins a malformed one.
+-- A text's front without a line feed, which is all of the text or longer than a well-formed line, begins a malformed one.
 pub no_line_feed : (front rest : List ℕ) → Without line_feed front → 0 < length front → (rest ≡ []) ⊎ (511 < length front)
     → bytes_of (front ++ rest) ≡ malformed 0
 no_line_feed front rest without some enough =

@@ -58,7 +58,7 @@ module _ (piece rest : List ℕ) (n : ℕ) (e : n ≡ ended_length line_feed pie
       sym (append_assoc (take n piece) (drop n piece) rest) ∙ ap (λ (b : List ℕ). b ++ rest) (take-append-drop n piece) in
       rw (size, whole) at (after_lines (take n piece) (drop n piece ++ rest) file good)
 
-  -- No line ends in a piece that is all of the text, or longer than a well_formed_is line.
+  -- No line ends in a piece that is all of the text, or longer than a well-formed line.
   piece_no_line : n ≡ 0 → 0 < length piece → (rest ≡ []) ⊎ (511 < length piece) → bytes_of (piece ++ rest) ≡ malformed 0
   piece_no_line z some enough =
       ⊎_elim (λ none. no_line_feed piece rest none.0 some enough) (λ last. absurd (omega (arith, z, e, last.ends))) (ended line_feed piece)
@@ -215,7 +215,7 @@ module _ (text piece rest : List ℕ) (place : ℕ) (so : Reached text piece res
   unfolding read_of
   told_malformed at is output = rw (so.so_far, malformed_by piece rest at is)
 
-  -- Bytes in which no line ends begin a malformed one, if the text ends with them or a well_formed_is line has not as many.
+  -- Bytes in which no line ends begin a malformed one, if the text ends with them or a well-formed line has not as many.
   pub told_unended : piece_of piece ≡ Piece.Unended → (rest ≡ []) ⊎ (511 < length piece)
       → (output : List ℕ) → read_of text output ≡ written (refusal malformed_line place) output
   unfolding read_of
