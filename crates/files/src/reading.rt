@@ -1,5 +1,6 @@
 // Reading a file to its end. Each read's answer is looked at, so a read that fails is never taken for the end.
-ghost use Rattle.std.specs.Prelude.{◌≤◌};
+ghost use Rattle.std.specs.Prelude.{◌≡◌, ◌≤◌, ◌↔◌, IfSome, IsNone};
+ghost use Rattle.std.specs.Str.{IsUtf8};
 ghost use Rattle.io.specs.Counts.{IsPrefixLen};
 
 use crate::reasons::fail;
@@ -32,7 +33,10 @@ const TURNS: u64 = 140737488355328;
 const NO_TEXT: i32 = 84;
 
 // A name as text, or none after a line that says why.
-pub fn text_of<'a>(rt: &HostRuntime, path: &'a [u8]) -> Option<&'a str> {
+pub fn text_of<'a>(rt: &HostRuntime, path: &'a [u8]) -> Option<&'a str>
+    ensures some { IfSome result (λ name. name.now ≡ path.now) }
+    ensures none { IsNone result ↔ ¬ (IsUtf8 path.now) }
+{
     match str::from_utf8(path) {
         Ok(name) => Some(name),
         Err(_) => {

@@ -1,5 +1,5 @@
-// What the programs write on standard output: text, numbers and refusals. No contract can say what is written. What cannot be
-// written is lost, and the rest is tried all the same: whoever reads the output sees that it is not whole.
+// What the programs write on standard output: text, numbers and refusals. No contract can say what is written. A write that fails
+// is not told, since there is no other place for it.
 #![tactic(auto)]
 
 mod meanings;
