@@ -1,5 +1,5 @@
 // Reading a file to its end. Each read's answer is looked at, so a read that fails is never taken for the end.
-ghost use Rattle.std.specs.Prelude.{◌≡◌, ◌≤◌, ◌↔◌, IfSome, IsNone};
+ghost use Rattle.std.specs.Prelude.{◌≡◌, ◌≤◌, MatchOption};
 ghost use Rattle.std.specs.Str.{IsUtf8};
 ghost use Rattle.io.specs.Counts.{IsPrefixLen};
 
@@ -34,8 +34,7 @@ const NO_TEXT: i32 = 84;
 
 // A name as text, or none after a line that says why.
 pub fn text_of<'a>(rt: &HostRuntime, path: &'a [u8]) -> Option<&'a str>
-    ensures some { IfSome result (λ name. name.now ≡ path.now) }
-    ensures none { IsNone result ↔ ¬ (IsUtf8 path.now) }
+    ensures { MatchOption result (¬ (IsUtf8 path.now)) (λ name. (name.now ≡ path.now) × IsUtf8 path.now) }
 {
     match str::from_utf8(path) {
         Ok(name) => Some(name),
