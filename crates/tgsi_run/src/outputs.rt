@@ -27,12 +27,10 @@ fn line(rt: &impl Print, registers: &[u32], i: u8) {
 }
 
 fn declared_lines(rt: &impl Print, declared: Declared, registers: &[u32]) {
-    let mut i = 0;
-    while i < OUT_REGISTERS {
+    for i in 0..OUT_REGISTERS {
         if sets::is_declared(declared, OUT, i as usize) {
             line(rt, registers, i);
         }
-        i += 1;
     }
 }
 
