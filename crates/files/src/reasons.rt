@@ -5,7 +5,7 @@ use std::io::{Cursor, Write};
 // More bytes than the text of any error takes.
 const ROOM: usize = 320;
 
-// The name alone, since a caller's line is no different whether it can be written or not.
+// What cannot be written here is lost, since there is no other place to tell it.
 fn line(rt: &HostRuntime, what: &[u8], separator: &[u8], why: &[u8]) {
     let errors = rt.stderr();
     let _ = errors.write_all(what);

@@ -119,13 +119,28 @@ fn lent_words(rt: &impl Print) {
     lent_case(rt, b"inputs, words", 128, enough);
     lent_case(rt, b"inputs, words", 127, words(127, 4096, 1156, 3, 16384));
     lent_case(rt, b"constants, words", 4096, enough);
-    lent_case(rt, b"constants, words", 4095, words(128, 4095, 1156, 3, 16384));
+    lent_case(
+        rt,
+        b"constants, words",
+        4095,
+        words(128, 4095, 1156, 3, 16384),
+    );
     lent_case(rt, b"registers, words", 1156, enough);
-    lent_case(rt, b"registers, words", 1155, words(128, 4096, 1155, 3, 16384));
+    lent_case(
+        rt,
+        b"registers, words",
+        1155,
+        words(128, 4096, 1155, 3, 16384),
+    );
     lent_case(rt, b"working words", 3, enough);
     lent_case(rt, b"working words", 2, words(128, 4096, 1156, 2, 16384));
     lent_case(rt, b"memory, words", 16384, enough);
-    lent_case(rt, b"memory, words", 16385, words(128, 4096, 1156, 3, 16385));
+    lent_case(
+        rt,
+        b"memory, words",
+        16385,
+        words(128, 4096, 1156, 3, 16385),
+    );
 }
 
 fn main(rt: HostRuntime) {

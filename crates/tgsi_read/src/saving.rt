@@ -3,10 +3,9 @@
 ghost use Rattle.std.specs.Prelude.{◌≡◌, ◌+◌, ◌≤◌, ◌++◌, length, take, codes};
 
 use files::NAME_ROOM;
-use std::fs;
 use std::fs::{File, OpenOptions};
-use std::io;
 use std::io::{ErrorKind, Write};
+use std::{fs, io};
 use text::output::put_all;
 
 // As many bytes as a name and `.part` take.
@@ -41,6 +40,11 @@ fn open_to_update(rt: &HostRuntime, name: &str) -> io::Result<File> {
     OpenOptions::new().read(true).write(true).open(rt, name)
 }
 
+// Makes a file by a name that is free, for writing.
+fn open_new(rt: &HostRuntime, name: &str) -> io::Result<File> {
+    OpenOptions::new().write(true).create_new(true).open(rt, name)
+}
+
 // Whether a name is free or a regular file's that may be written. Where it is neither, a line says so.
 fn can_be_taken(rt: &HostRuntime, name: &str) -> bool {
     if name.is_empty() {
@@ -61,8 +65,8 @@ fn can_be_taken(rt: &HostRuntime, name: &str) -> bool {
     }
 }
 
-// Makes a file of these bytes by a name that is free, and writes it on to the disk or card, so that a write that fails late is seen too;
-// closing has nothing left to write then.
+// Writes all bytes to a new file, and on to the disk or card, so that a write that fails late is seen too; closing has nothing left to
+// write then.
 fn write_to_disk(mut file: File, bytes: &[u8]) -> io::Result<()> {
     file.write_all(bytes)?;
     file.sync_all()
@@ -70,7 +74,7 @@ fn write_to_disk(mut file: File, bytes: &[u8]) -> io::Result<()> {
 
 // Makes a file of these bytes, and answers whether it is whole. Where it is not, a line says why.
 fn make(rt: &HostRuntime, name: &str, bytes: &[u8]) -> bool {
-    let file = match OpenOptions::new().write(true).create_new(true).open(rt, name) {
+    let file = match open_new(rt, name) {
         Ok(file) => file,
         Err(error) => {
             files::fail(rt, name.as_bytes(), &error);

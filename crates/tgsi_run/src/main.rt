@@ -13,7 +13,10 @@ mod word_files;
 const BUDGET: u32 = 200000;
 
 fn halt_line(rt: &impl Print, next: u32) {
-    report::text(rt, b"the budget of 200,000 steps is spent before END; instruction");
+    report::text(
+        rt,
+        b"the budget of 200,000 steps is spent before END; instruction",
+    );
     report::next_number(rt, next as u64);
     report::text(rt, b", counted from 0, comes next\n");
 }
