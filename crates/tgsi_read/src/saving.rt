@@ -42,7 +42,10 @@ fn open_to_update(rt: &HostRuntime, name: &str) -> io::Result<File> {
 
 // Makes a file by a name that is free, for writing.
 fn open_new(rt: &HostRuntime, name: &str) -> io::Result<File> {
-    OpenOptions::new().write(true).create_new(true).open(rt, name)
+    OpenOptions::new()
+        .write(true)
+        .create_new(true)
+        .open(rt, name)
 }
 
 // Whether a name is free or a regular file's that may be written. Where it is neither, a line says so.
