@@ -9,7 +9,7 @@ ghost use Rattle.std.specs.Prelude.{◌≤◌};
 ghost use Rattle.io.specs.Counts.{IsPrefixLen};
 
 pub use reading::{FAILED, Read, fill, open, text_of};
-pub use reasons::{fail, fault_line};
+pub use reasons::fail;
 use std::env::{Env, FillError};
 use std::io;
 
@@ -36,7 +36,9 @@ const NO_START: Start = Start {
 };
 
 // Whether the program was started with an argument of this number; its own name is number 0.
-pub fn is_given(rt: &impl Env, argument: usize) -> bool {
+pub fn is_given(rt: &impl Env, argument: usize) -> bool
+    ensures { Unit {0} }
+{
     match rt.arg(argument, &mut []) {
         Ok(_) | Err(FillError::TooLong) => true,
         Err(FillError::NotPresent) => false,
@@ -52,6 +54,13 @@ pub fn is_help_asked_for(rt: &impl Env) -> bool
         Ok(n) => matches!(&word[..n], b"--help" | b"-h"),
         Err(_) => false,
     }
+}
+
+// A line with what is wrong with a file.
+pub fn fault_line(rt: &HostRuntime, path: &[u8], fault: &[u8])
+    ensures { Unit {0} }
+{
+    reasons::line(rt, path, b"", fault);
 }
 
 // Why a word is no name.

@@ -1,24 +1,17 @@
-// Lines on standard error: what is wrong, and why in the system's words. No contract can say what is written.
+// Lines on standard error: what failed, and why in the system's words. No contract can say what is written.
 use std::io;
 use std::io::{Cursor, Write};
 
 // More bytes than the text of any error takes.
 const ROOM: usize = 320;
 
-// What cannot be written here is lost, since there is no other place to tell it.
-fn line(rt: &HostRuntime, what: &[u8], separator: &[u8], why: &[u8]) {
+// One line, of three parts. What cannot be written here is lost, since there is no other place to tell it.
+pub fn line(rt: &HostRuntime, what: &[u8], separator: &[u8], why: &[u8]) {
     let errors = rt.stderr();
     let _ = errors.write_all(what);
     let _ = errors.write_all(separator);
     let _ = errors.write_all(why);
     let _ = errors.write_all(b"\n");
-}
-
-// A line with what is wrong with a file.
-pub fn fault_line(rt: &HostRuntime, path: &[u8], fault: &[u8])
-    ensures { Unit {0} }
-{
-    line(rt, path, b"", fault);
 }
 
 // The system's words alone: std adds the error's number, as in ` (os error 2)`.
