@@ -3,12 +3,23 @@
 #![tactic(auto)]
 
 mod reading;
+mod reasons;
 
 ghost use Rattle.std.specs.Prelude.{◌≤◌};
 ghost use Rattle.io.specs.Counts.{IsPrefixLen};
 
-use libc::STDERR_FILENO;
-pub use reading::{FAILED, Read, fill, open};
+pub use reading::{FAILED, Read, fill, open, text_of};
+pub use reasons::fail;
+use std::env::{Env, FillError};
+use std::io;
+
+// As many bytes as the longest name that the system takes, and the 0 that ends it.
+pub const NAME_ROOM: usize = 4096;
+
+// The system's numbers for a word that is missing, and for one that does not fit.
+const NO_WORD: i32 = 22;
+
+const NAME_TOO_LONG: i32 = 36;
 
 // Bytes at the start of a buffer, and how many more the file has.
 #[derive(Clone, Copy)]
@@ -24,72 +35,88 @@ const NO_START: Start = Start {
     rest: 0,
 };
 
-// Whether the first argument asks for help.
-pub fn is_help_asked_for() -> bool
+// Whether the program was started with an argument of this number; its own name is number 0.
+pub fn is_given(rt: &impl Env, argument: usize) -> bool
     ensures { Unit {0} }
 {
-    let mut word = io::buffer();
-    let n = os::arg(1, &mut word);
-    check::same(&word[..n], b"--help") | check::same(&word[..n], b"-h")
+    match rt.arg(argument, &mut []) {
+        Ok(_) | Err(FillError::TooLong) => true,
+        Err(FillError::NotPresent) => false,
+    }
+}
+
+// Whether the first argument asks for help.
+pub fn is_help_asked_for(rt: &impl Env) -> bool
+    ensures { Unit {0} }
+{
+    let mut word = [0u8; NAME_ROOM];
+    match rt.arg(1, &mut word) {
+        Ok(n) => matches!(&word[..n], b"--help" | b"-h"),
+        Err(_) => false,
+    }
 }
 
 // A line with what is wrong with a file.
-pub fn fault_line(path: &[u8], fault: &[u8])
+pub fn fault_line(rt: &HostRuntime, path: &[u8], fault: &[u8])
     ensures { Unit {0} }
 {
-    io::write_all(STDERR_FILENO, path);
-    io::write_all(STDERR_FILENO, fault);
-    io::write_all(STDERR_FILENO, b"\n");
+    reasons::line(rt, path, b"", fault);
+}
+
+// Why a word is no name.
+fn reason(error: FillError) -> io::Error {
+    match error {
+        FillError::NotPresent => io::Error::from_raw_os_error(NO_WORD),
+        FillError::TooLong => io::Error::from_raw_os_error(NAME_TOO_LONG),
+    }
 }
 
 // Puts the name that an argument gives at the start of a buffer. One that does not fit is no name.
-pub fn name_of(argument: usize, title: &[u8], path: &mut [u8]) -> Read
+pub fn name_of(rt: &HostRuntime, argument: usize, title: &[u8], path: &mut [u8]) -> Read
     ensures { IsPrefixLen result.count path.new }
 {
-    let count = os::arg(argument, path);
-    let whole = os::errno() == 0;
-    if !whole {
-        os::fail(title);
+    match rt.arg(argument, path) {
+        Ok(count) => Read { whole: true, count },
+        Err(error) => {
+            fail(rt, title, &reason(error));
+            FAILED
+        }
     }
-    Read { whole, count }
 }
 
 // Puts a file at the start of a buffer, as much of it as fits.
-fn read_named(path: &[u8], buffer: &mut [u8]) -> Read
+fn read_named(rt: &HostRuntime, path: &[u8], buffer: &mut [u8]) -> Read
     ensures { IsPrefixLen result.count buffer.new }
 {
-    let fd = reading::open(path);
-    if fd < 0 {
-        return FAILED;
+    match reading::open(rt, path) {
+        Some(mut file) => reading::fill(rt, &mut file, path, buffer),
+        None => FAILED,
     }
-    let file = reading::fill(fd, path, buffer);
-    libc::close(fd);
-    file
 }
 
 // The same of the file that an argument names.
-pub fn read_bytes(argument: usize, title: &[u8], buffer: &mut [u8]) -> Read
+pub fn read_bytes(rt: &HostRuntime, argument: usize, title: &[u8], buffer: &mut [u8]) -> Read
     ensures { IsPrefixLen result.count buffer.new }
 {
-    let mut path = io::buffer();
-    let name = name_of(argument, title, &mut path);
+    let mut path = [0u8; NAME_ROOM];
+    let name = name_of(rt, argument, title, &mut path);
     if !name.whole {
         return FAILED;
     }
     let n = name.count;
-    read_named(&path[..n], buffer)
+    read_named(rt, &path[..n], buffer)
 }
 
 // As much of an open file as fits into a buffer, with what follows counted.
-fn start_of(fd: i32, path: &[u8], buffer: &mut [u8]) -> Start
+fn start_of<F: io::Read>(rt: &HostRuntime, file: &mut F, path: &[u8], buffer: &mut [u8]) -> Start
     ensures within { IsPrefixLen result.count buffer.new }
     ensures rest { result.rest ≤ 9223372036854775808 }
 {
-    let read = reading::fill(fd, path, buffer);
+    let read = reading::fill(rt, file, path, buffer);
     if !read.whole {
         return NO_START;
     }
-    let rest = reading::rest_of(fd, path);
+    let rest = reading::rest_of(rt, file, path);
     Start {
         whole: rest.whole,
         count: read.count,
@@ -98,15 +125,12 @@ fn start_of(fd: i32, path: &[u8], buffer: &mut [u8]) -> Start
 }
 
 // The same of a file by its name.
-pub fn start_named(path: &[u8], buffer: &mut [u8]) -> Start
+pub fn start_named(rt: &HostRuntime, path: &[u8], buffer: &mut [u8]) -> Start
     ensures within { IsPrefixLen result.count buffer.new }
     ensures rest { result.rest ≤ 9223372036854775808 }
 {
-    let fd = reading::open(path);
-    if fd < 0 {
-        return NO_START;
+    match reading::open(rt, path) {
+        Some(mut file) => start_of(rt, &mut file, path, buffer),
+        None => NO_START,
     }
-    let start = start_of(fd, path, buffer);
-    libc::close(fd);
-    start
 }

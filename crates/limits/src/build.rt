@@ -13,10 +13,8 @@ fn put(file: &mut [u8], at: usize, byte: u8) -> usize {
 // Records, one after another.
 fn append(file: &mut [u8], at: usize, records: &[u8]) -> usize {
     let mut place = at;
-    let mut i = 0;
-    while i < records.len() {
-        place = put(file, place, records[i]);
-        i += 1;
+    for byte in records {
+        place = put(file, place, *byte);
     }
     place
 }
@@ -24,10 +22,8 @@ fn append(file: &mut [u8], at: usize, records: &[u8]) -> usize {
 // The same records so many times.
 pub fn repeat(file: &mut [u8], at: usize, records: &[u8], times: u32) -> usize {
     let mut place = at;
-    let mut left = times;
-    while left != 0 {
+    for _ in 0..times {
         place = append(file, place, records);
-        left -= 1;
     }
     place
 }
@@ -52,10 +48,8 @@ fn declare(file: &mut [u8], at: usize, register_file: u8, index: u16) -> usize {
 // A declaration of its own for each of so many registers of a file, from register 0 on.
 pub fn declare_each(file: &mut [u8], at: usize, register_file: u8, registers: u16) -> usize {
     let mut place = at;
-    let mut index = 0;
-    while index < registers {
+    for index in 0..registers {
         place = declare(file, place, register_file, index);
-        index += 1;
     }
     place
 }

@@ -12,73 +12,73 @@ mod lent;
 const ROOM: usize = 65537;
 
 // `NAME N: `, and what the run of a file comes to.
-fn case(name: &[u8], n: usize, file: &[u8], lent: Lent) {
-    report::text(name);
-    report::next_number(n as u64);
-    report::text(b": ");
-    outcomes::outcome_line(lent::run(file, lent));
+fn case(rt: &impl Print, name: &[u8], n: usize, file: &[u8], lent: Lent) {
+    report::text(rt, name);
+    report::next_number(rt, n as u64);
+    report::text(rt, b": ");
+    outcomes::outcome_line(rt, lent::run(file, lent));
 }
 
 // The same of a file that fills the first bytes of a buffer, lent as many words as any program can ask for.
-fn file_case(name: &[u8], n: usize, buffer: &[u8], length: usize) {
+fn file_case(rt: &impl Print, name: &[u8], n: usize, buffer: &[u8], length: usize) {
     if length <= buffer.len() {
-        case(name, n, &buffer[..length], lent::most());
+        case(rt, name, n, &buffer[..length], lent::most());
     }
 }
 
 // An immediate, blocks inside each other, so deep, and END.
-fn depth(name: &[u8], opening: &[u8], closing: &[u8], deep: u32) {
+fn depth(rt: &impl Print, name: &[u8], opening: &[u8], closing: &[u8], deep: u32) {
     let mut file = [0u8; ROOM];
     let mut at = build::immediates(&mut file, 0, 1);
     at = build::repeat(&mut file, at, opening, deep);
     at = build::repeat(&mut file, at, closing, deep);
     at = build::end(&mut file, at);
-    file_case(name, deep as usize, &file, at);
+    file_case(rt, name, deep as usize, &file, at);
 }
 
 // "At most 16 are open." With 16: each block's opening is a step, and each block has one more, ENDIF, BRK (which goes past
 // ENDLOOP) or ENDSWITCH (SWITCH goes past its CASE); with END that is 33. With 17: "12: a 17th open block", at the 17th
 // opening. The immediate has 17 bytes, so that is 17 + 16 * 6 = 113 for UIF, 17 + 16 = 33 for BGNLOOP and, with a CASE of 6
 // bytes after each SWITCH, 17 + 16 * 12 = 209 for SWITCH.
-fn depths() {
+fn depths(rt: &impl Print) {
     let uif = b"\x90\x06\x00\x00\x00\x00";
     let switch = b"\x91\x06\x00\x00\x00\x00\x92\x06\x00\x00\x00\x00";
-    depth(b"UIF depth", uif, b"\x82", 16);
-    depth(b"UIF depth", uif, b"\x82", 17);
-    depth(b"loop depth", b"\x83", b"\x85\x84", 16);
-    depth(b"loop depth", b"\x83", b"\x85\x84", 17);
-    depth(b"SWITCH depth", switch, b"\x88", 16);
-    depth(b"SWITCH depth", switch, b"\x88", 17);
+    depth(rt, b"UIF depth", uif, b"\x82", 16);
+    depth(rt, b"UIF depth", uif, b"\x82", 17);
+    depth(rt, b"loop depth", b"\x83", b"\x85\x84", 16);
+    depth(rt, b"loop depth", b"\x83", b"\x85\x84", 17);
+    depth(rt, b"SWITCH depth", switch, b"\x88", 16);
+    depth(rt, b"SWITCH depth", switch, b"\x88", 17);
 }
 
 // So many NOPs, and END.
-fn instructions(nops: u32) {
+fn instructions(rt: &impl Print, nops: u32) {
     let mut file = [0u8; ROOM];
     let mut at = build::repeat(&mut file, 0, b"\x80", nops);
     at = build::end(&mut file, at);
-    file_case(b"instructions", nops as usize + 1, &file, at);
+    file_case(rt, b"instructions", nops as usize + 1, &file, at);
 }
 
 // So many immediates, and END.
-fn immediates(n: u32) {
+fn immediates(rt: &impl Print, n: u32) {
     let mut file = [0u8; ROOM];
     let mut at = build::immediates(&mut file, 0, n);
     at = build::end(&mut file, at);
-    file_case(b"immediates", n as usize, &file, at);
+    file_case(rt, b"immediates", n as usize, &file, at);
 }
 
 // "6: 1,025th instruction or 257th immediate". 1,023 NOPs and END are 1,024 steps. With one NOP more END is the 1,025th
 // instruction, at place 1,024. With 256 immediates END is the only step, and the 257th immediate stands at 256 * 17 = 4,352.
-fn counts() {
-    instructions(1023);
-    instructions(1024);
-    immediates(256);
-    immediates(257);
+fn counts(rt: &impl Print) {
+    instructions(rt, 1023);
+    instructions(rt, 1024);
+    immediates(rt, 256);
+    immediates(rt, 257);
 }
 
 // The longest file that is accepted: each register has a declaration of its own, for declarations do not overlap, there are 256
 // immediates, and each instruction but END is as long as one can be, a BFI.
-fn longest_accepted() {
+fn longest_accepted(rt: &impl Print) {
     let bfi =
         b"\x70\x04\x00\x00\x0f\x06\x00\x00\xe4\x00\x06\x00\x00\xe4\x00\x06\x00\x00\xe4\x00\x06\x00\x00\xe4\x00";
     let mut file = [0u8; ROOM];
@@ -91,46 +91,61 @@ fn longest_accepted() {
     at = build::immediates(&mut file, at, 256);
     at = build::repeat(&mut file, at, bfi, 1023);
     at = build::end(&mut file, at);
-    file_case(b"longest accepted, bytes", at, &file, at);
+    file_case(rt, b"longest accepted, bytes", at, &file, at);
 }
 
 // "1: file over 65,536 bytes". No file of 65,536 bytes is accepted: the longest that is has 1,346 declarations of 6 bytes,
 // 256 immediates of 17, 1,023 instructions of 25 and END, 38,004 bytes, and makes 1,024 steps. So a file of 65,536 NOPs shows
 // that this length is not refused as such: it gets 6 at its 1,025th instruction, place 1,024, and one of 65,537 gets 1 at 0.
-fn lengths() {
-    longest_accepted();
+fn lengths(rt: &impl Print) {
+    longest_accepted(rt);
     let mut file = [0u8; ROOM];
     let at = build::repeat(&mut file, 0, b"\x80", 65537);
-    file_case(b"bytes", 65536, &file, 65536);
-    file_case(b"bytes", 65537, &file, at);
+    file_case(rt, b"bytes", 65536, &file, 65536);
+    file_case(rt, b"bytes", 65537, &file, at);
 }
 
 // Declarations of IN[31] and CONST[1023], and END: one instruction.
-fn lent_case(name: &[u8], n: usize, lent: Lent) {
+fn lent_case(rt: &impl Print, name: &[u8], n: usize, lent: Lent) {
     let program = b"\x01\x02\x1f\x00\x1f\x00\x01\x01\xff\x03\xff\x03\x89";
-    case(name, n, program, lent);
+    case(rt, name, n, program, lent);
 }
 
 // "20-24 .. in order, place 0: inputs, constants shorter than 4·(highest declared+1) words; registers under 1,156; working
 // words under 3 per instruction; memory over 16,384 words." The program asks for 128, 4,096, 1,156 and 3 words, and with
 // enough of each it ends in 1 step.
-fn lent_words() {
+fn lent_words(rt: &impl Print) {
     let enough = words(128, 4096, 1156, 3, 16384);
-    lent_case(b"inputs, words", 128, enough);
-    lent_case(b"inputs, words", 127, words(127, 4096, 1156, 3, 16384));
-    lent_case(b"constants, words", 4096, enough);
-    lent_case(b"constants, words", 4095, words(128, 4095, 1156, 3, 16384));
-    lent_case(b"registers, words", 1156, enough);
-    lent_case(b"registers, words", 1155, words(128, 4096, 1155, 3, 16384));
-    lent_case(b"working words", 3, enough);
-    lent_case(b"working words", 2, words(128, 4096, 1156, 2, 16384));
-    lent_case(b"memory, words", 16384, enough);
-    lent_case(b"memory, words", 16385, words(128, 4096, 1156, 3, 16385));
+    lent_case(rt, b"inputs, words", 128, enough);
+    lent_case(rt, b"inputs, words", 127, words(127, 4096, 1156, 3, 16384));
+    lent_case(rt, b"constants, words", 4096, enough);
+    lent_case(
+        rt,
+        b"constants, words",
+        4095,
+        words(128, 4095, 1156, 3, 16384),
+    );
+    lent_case(rt, b"registers, words", 1156, enough);
+    lent_case(
+        rt,
+        b"registers, words",
+        1155,
+        words(128, 4096, 1155, 3, 16384),
+    );
+    lent_case(rt, b"working words", 3, enough);
+    lent_case(rt, b"working words", 2, words(128, 4096, 1156, 2, 16384));
+    lent_case(rt, b"memory, words", 16384, enough);
+    lent_case(
+        rt,
+        b"memory, words",
+        16385,
+        words(128, 4096, 1156, 3, 16385),
+    );
 }
 
-fn main() {
-    depths();
-    counts();
-    lengths();
-    lent_words();
+fn main(rt: HostRuntime) {
+    depths(&rt);
+    counts(&rt);
+    lengths(&rt);
+    lent_words(&rt);
 }

@@ -4,21 +4,21 @@
 use runner::Outcome;
 
 // `ended STEPS`, `halted STEPS NEXT` or `refused NUMBER PLACE`
-pub fn outcome_line(outcome: Outcome)
+pub fn outcome_line(rt: &impl Print, outcome: Outcome)
     ensures { Unit {0} }
 {
     match outcome {
         Outcome::Ended(told) => {
-            report::text(b"ended");
-            report::next_number(told.steps as u64);
-            report::line_end();
+            report::text(rt, b"ended");
+            report::next_number(rt, told.steps as u64);
+            report::line_end(rt);
         }
         Outcome::Halted(told, next) => {
-            report::text(b"halted");
-            report::next_number(told.steps as u64);
-            report::next_number(next as u64);
-            report::line_end();
+            report::text(rt, b"halted");
+            report::next_number(rt, told.steps as u64);
+            report::next_number(rt, next as u64);
+            report::line_end(rt);
         }
-        Outcome::Refused(number, place) => report::refusal_line(number, place as u64),
+        Outcome::Refused(number, place) => report::refusal_line(rt, number, place as u64),
     }
 }

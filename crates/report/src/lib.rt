@@ -1,58 +1,57 @@
-// What the programs write on standard output: text, numbers and refusals. No contract can say what is written.
+// What the programs write on standard output: text, numbers and refusals. No contract can say what is written. A write that fails
+// is not told, since there is no other place for it.
 #![tactic(auto)]
-
-use libc::STDOUT_FILENO;
 
 mod meanings;
 
-pub fn text(bytes: &[u8])
+pub fn text(rt: &impl Print, bytes: &[u8])
     ensures { Unit {0} }
 {
-    io::write_all(STDOUT_FILENO, bytes);
+    let _ = rt.write_all(bytes);
 }
 
-pub fn line_end()
+pub fn line_end(rt: &impl Print)
     ensures { Unit {0} }
 {
-    text(b"\n");
+    text(rt, b"\n");
 }
 
-pub fn number(n: u64)
+pub fn number(rt: &impl Print, n: u64)
     ensures { Unit {0} }
 {
-    io::print_decimal(STDOUT_FILENO, n);
+    let _ = rt.print(n);
 }
 
 // A space and a number.
-pub fn next_number(n: u64)
+pub fn next_number(rt: &impl Print, n: u64)
     ensures { Unit {0} }
 {
-    text(b" ");
-    number(n);
+    text(rt, b" ");
+    number(rt, n);
 }
 
 // `refused NUMBER PLACE`
-pub fn refusal_line(number: u8, place: u64)
+pub fn refusal_line(rt: &impl Print, number: u8, place: u64)
     ensures { Unit {0} }
 {
-    text(b"refused");
-    next_number(number as u64);
-    next_number(place);
-    line_end();
+    text(rt, b"refused");
+    next_number(rt, number as u64);
+    next_number(rt, place);
+    line_end(rt);
 }
 
 // What a refusal says.
-pub fn meaning_line(number: u8)
+pub fn meaning_line(rt: &impl Print, number: u8)
     ensures { Unit {0} }
 {
-    meanings::refusal(number);
-    line_end();
+    text(rt, meanings::refusal(number));
+    line_end(rt);
 }
 
 // Both lines.
-pub fn refusal_lines(number: u8, place: u64)
+pub fn refusal_lines(rt: &impl Print, number: u8, place: u64)
     ensures { Unit {0} }
 {
-    refusal_line(number, place);
-    meaning_line(number);
+    refusal_line(rt, number, place);
+    meaning_line(rt, number);
 }

@@ -8,6 +8,7 @@ ghost use Rattle.tgsi_read.specs.Inner.Turns.{turn_of};
 
 use format::refusals::{MALFORMED_LINE, TOO_LONG};
 use listing::Piece;
+use std::io;
 use text::output::move_to_front;
 
 // More pieces than a file of 2^63 bytes has, each with at most 511 bytes of a cut line. A proved loop ends, and nothing says that a file
@@ -58,7 +59,7 @@ fn take_turn(text: &mut [u8], count: usize, place: u64) -> Turn
 }
 
 // Refuses the listing whose first bytes fill a buffer.
-pub fn refuse(fd: i32, path: &[u8], text: &mut [u8])
+pub fn refuse<F: io::Read>(rt: &HostRuntime, file: &mut F, path: &[u8], text: &mut [u8])
     requires { length text.old ≡ 262145 }
 {
     let mut place: u64 = 0;
@@ -67,17 +68,17 @@ pub fn refuse(fd: i32, path: &[u8], text: &mut [u8])
     while turns > 0 {
         let turn = take_turn(text, count, place);
         if turn.number != 0 {
-            report::refusal_lines(turn.number, turn.place);
+            report::refusal_lines(rt, turn.number, turn.place);
             return;
         }
         place += turn.passed as u64;
         count -= turn.passed;
-        let more = files::fill(fd, path, &mut text[count..]);
+        let more = files::fill(rt, file, path, &mut text[count..]);
         if !more.whole {
             return;
         }
         count += more.count;
         turns -= 1;
     }
-    files::fault_line(path, b": does not end");
+    files::fault_line(rt, path, b": does not end");
 }

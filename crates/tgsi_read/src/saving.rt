@@ -1,123 +1,137 @@
 // Writing a file so that its name stands for all of it or for what it stood for before: the bytes go to a new file beside it, which then
 // takes its name. A link or a device would lose its place by that, so neither is taken.
-use libc::{ENOENT, PATH_MAX, SEEK_END};
+ghost use Rattle.std.specs.Prelude.{◌≡◌, ◌+◌, ◌≤◌, ◌++◌, length, take, codes};
+
+use files::NAME_ROOM;
+use std::fs::{File, OpenOptions};
+use std::io::{ErrorKind, Write};
+use std::{fs, io};
 use text::output::put_all;
 
-// The place of the 0 that ends the longest name.
-const LAST: usize = PATH_MAX - 1;
-
 // As many bytes as a name and `.part` take.
-const ROOM: usize = PATH_MAX + 5;
+const ROOM: usize = NAME_ROOM + 5;
 
-// Whether a name, with zeros after it, is a link's: then the system can read where it leads.
-fn is_link(name: [u8; PATH_MAX]) -> bool {
-    let mut path = name;
-    path[LAST] = 0;
-    let mut target = [0u8; 1];
-    libc::readlink(&path, &mut target) >= 0
+fn is_link(rt: &HostRuntime, name: &str) -> bool {
+    match fs::symlink_metadata(rt, name) {
+        Ok(metadata) => metadata.is_symlink(),
+        Err(_) => false,
+    }
 }
 
-// A pipe or a terminal has no position, and a device such as /dev/null nothing to put on a disk. Neither call changes the file, its time
-// included; a disk itself passes both.
-fn is_regular(fd: i32) -> bool {
-    if libc::lseek(fd, 0, SEEK_END) < 0 {
-        return false;
+// Neither a pipe nor a terminal is one, nor a device such as /dev/null. Asking does not change the file, its time included.
+fn is_regular(file: &File) -> bool {
+    match file.metadata() {
+        Ok(metadata) => metadata.is_file(),
+        Err(_) => false,
     }
-    libc::fsync(fd) == 0
 }
 
 // Whether a name that did not open is free. Where it is not, a line gives the system's reason.
-fn is_free(path: &[u8]) -> bool {
-    let free = os::errno() == ENOENT;
+fn is_free(rt: &HostRuntime, name: &str, error: &io::Error) -> bool {
+    let free = error.kind() == ErrorKind::NotFound;
     if !free {
-        os::fail(path);
+        files::fail(rt, name.as_bytes(), error);
     }
     free
 }
 
-// Whether a name is free or a regular file's that may be written. Where it is neither, a line says so.
-fn can_be_taken(name: [u8; PATH_MAX], path: &[u8]) -> bool {
-    if path.len() == 0 {
-        files::fault_line(b"output", b": no name");
-        return false;
-    }
-    if is_link(name) {
-        files::fault_line(path, b": a link, not a regular file");
-        return false;
-    }
-    let fd = os::open_update(path);
-    if fd < 0 {
-        return is_free(path);
-    }
-    let regular = is_regular(fd);
-    libc::close(fd);
-    if !regular {
-        files::fault_line(path, b": not a regular file");
-    }
-    regular
+// Opens a file that is there for writing, and leaves its bytes as they are.
+fn open_to_update(rt: &HostRuntime, name: &str) -> io::Result<File> {
+    OpenOptions::new().read(true).write(true).open(rt, name)
 }
 
-// Writes all bytes to an open file, and on to the disk or card, so that a write that fails late is seen too; closing has nothing left to
-// write then.
-fn write_to_disk(fd: i32, path: &[u8], bytes: &[u8]) -> bool {
-    if io::write_all(fd, bytes) {
-        if libc::fsync(fd) == 0 {
-            return true;
-        }
+// Makes a file by a name that is free, for writing.
+fn open_new(rt: &HostRuntime, name: &str) -> io::Result<File> {
+    OpenOptions::new()
+        .write(true)
+        .create_new(true)
+        .open(rt, name)
+}
+
+// Whether a name is free or a regular file's that may be written. Where it is neither, a line says so.
+fn can_be_taken(rt: &HostRuntime, name: &str) -> bool {
+    if name.is_empty() {
+        files::fault_line(rt, b"output", b": no name");
+        return false;
     }
-    os::fail(path);
-    false
+    if is_link(rt, name) {
+        files::fault_line(rt, name.as_bytes(), b": a link, not a regular file");
+        return false;
+    }
+    match open_to_update(rt, name) {
+        Ok(file) if is_regular(&file) => true,
+        Ok(_) => {
+            files::fault_line(rt, name.as_bytes(), b": not a regular file");
+            false
+        }
+        Err(error) => is_free(rt, name, &error),
+    }
+}
+
+// Writes all bytes to a new file, and on to the disk or card, so that a write that fails late is seen too; closing has nothing left to
+// write then.
+fn write_to_disk(mut file: File, bytes: &[u8]) -> io::Result<()> {
+    file.write_all(bytes)?;
+    file.sync_all()
 }
 
 // Makes a file of these bytes, and answers whether it is whole. Where it is not, a line says why.
-fn make(path: &[u8], bytes: &[u8]) -> bool {
-    let fd = os::create(path);
-    if fd < 0 {
-        os::fail(path);
+fn make(rt: &HostRuntime, name: &str, bytes: &[u8]) -> bool {
+    let file = match open_new(rt, name) {
+        Ok(file) => file,
+        Err(error) => {
+            files::fail(rt, name.as_bytes(), &error);
+            return false;
+        }
+    };
+    if let Err(error) = write_to_disk(file, bytes) {
+        files::fail(rt, name.as_bytes(), &error);
+        let _ = fs::remove_file(rt, name);
         return false;
     }
-    let whole = write_to_disk(fd, path, bytes);
-    libc::close(fd);
-    if !whole {
-        os::unlink(path);
-    }
-    whole
+    true
 }
 
 // Makes a file by another name, and gives it the name.
-fn replace(path: &[u8], part: &[u8], bytes: &[u8]) -> bool {
-    if !make(part, bytes) {
+fn replace(rt: &HostRuntime, name: &str, part: &str, bytes: &[u8]) -> bool {
+    if !make(rt, part, bytes) {
         return false;
     }
-    let renamed = os::rename(part, path) == 0;
-    if !renamed {
-        os::fail(path);
-        os::unlink(part);
+    if let Err(error) = fs::rename(rt, part, name) {
+        files::fail(rt, name.as_bytes(), &error);
+        let _ = fs::remove_file(rt, part);
+        return false;
     }
-    renamed
+    true
 }
 
 // A name with `.part` after it, and zeros.
-fn part_of(path: &[u8]) -> [u8; ROOM] {
+fn part_of(name: &str) -> [u8; ROOM]
+    ensures { length name.now ≤ 4096 → take (length name.now + 5) result ≡ name.now ++ codes ".part" }
+{
     let mut part = [0u8; ROOM];
-    put_all(&mut part, 0, path);
-    put_all(&mut part, path.len(), b".part");
+    put_all(&mut part, 0, name.as_bytes());
+    put_all(&mut part, name.len(), b".part");
     part
 }
 
 // Writes bytes to the file that an argument names, and answers whether that went well. Where it did not, a line says why, and what the
 // name stood for is as it was.
-pub fn save(argument: usize, bytes: &[u8]) -> bool {
-    let mut path = io::buffer();
-    let name = files::name_of(argument, b"output", &mut path);
-    if !name.whole {
+pub fn save(rt: &HostRuntime, argument: usize, bytes: &[u8]) -> bool {
+    let mut path = [0u8; NAME_ROOM];
+    let given = files::name_of(rt, argument, b"output", &mut path);
+    if !given.whole {
         return false;
     }
-    let n = name.count;
-    if !can_be_taken(path, &path[..n]) {
+    let n = given.count;
+    let Some(name) = files::text_of(rt, &path[..n]) else {
+        return false;
+    };
+    if !can_be_taken(rt, name) {
         return false;
     }
-    let part = part_of(&path[..n]);
-    let end = n + 5;
-    replace(&path[..n], &part[..end], bytes)
+    let bytes_of_part = part_of(name);
+    let end = name.len() + 5;
+    let part = str::from_utf8(&bytes_of_part[..end]).unwrap();
+    replace(rt, name, part, bytes)
 }

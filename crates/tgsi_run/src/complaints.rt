@@ -1,22 +1,14 @@
 // What is wrong, on standard error. No contract can say what is written.
-use libc::STDERR_FILENO;
-
-fn text(bytes: &[u8]) {
-    io::write_all(STDERR_FILENO, bytes);
-}
-
-fn number(n: u64) {
-    io::print_decimal(STDERR_FILENO, n);
-}
 
 // `inputs: 128 of 250000 words used`, where that is not all.
-pub fn unused_line(title: &[u8], used: u64, given: u64) {
+pub fn unused_line(rt: &HostRuntime, title: &[u8], used: u64, given: u64) {
     if used < given {
-        text(title);
-        text(b": ");
-        number(used);
-        text(b" of ");
-        number(given);
-        text(b" words used\n");
+        let errors = rt.stderr();
+        report::text(&errors, title);
+        report::text(&errors, b":");
+        report::next_number(&errors, used);
+        report::text(&errors, b" of");
+        report::next_number(&errors, given);
+        report::text(&errors, b" words used\n");
     }
 }
