@@ -4,7 +4,7 @@ ghost use Rattle.std.specs.Prelude.{◌≡◌, ◌+◌, ◌≤◌, ◌++◌, len
 
 use files::NAME_ROOM;
 use std::fs::{File, OpenOptions};
-use std::io::{ErrorKind, Write};
+use std::io::{ErrorKind, Seek, SeekFrom, Write};
 use std::{fs, io};
 use text::output::put_all;
 
@@ -18,12 +18,13 @@ fn is_link(rt: &HostRuntime, name: &str) -> bool {
     }
 }
 
-// Neither a pipe nor a terminal is one, nor a device such as /dev/null. Asking does not change the file, its time included.
-fn is_regular(file: &File) -> bool {
-    match file.metadata() {
-        Ok(metadata) => metadata.is_file(),
-        Err(_) => false,
+// A pipe or a terminal has no position, and a device such as /dev/null nothing to put on a disk. Neither call changes the file, its time
+// included; a disk itself passes both.
+fn is_regular(file: &mut File) -> bool {
+    if file.seek(SeekFrom::End(0)).is_err() {
+        return false;
     }
+    file.sync_all().is_ok()
 }
 
 // Whether a name that did not open is free. Where it is not, a line gives the system's reason.
@@ -59,10 +60,12 @@ fn can_be_taken(rt: &HostRuntime, name: &str) -> bool {
         return false;
     }
     match open_to_update(rt, name) {
-        Ok(file) if is_regular(&file) => true,
-        Ok(_) => {
-            files::fault_line(rt, name.as_bytes(), b": not a regular file");
-            false
+        Ok(mut file) => {
+            let regular = is_regular(&mut file);
+            if !regular {
+                files::fault_line(rt, name.as_bytes(), b": not a regular file");
+            }
+            regular
         }
         Err(error) => is_free(rt, name, &error),
     }
