@@ -5,7 +5,7 @@ usage: tools/respell_rest.py OLDTREE [NEWTREE]
 
 OLDTREE is the repository before port.py. A name of OLDTREE's antt files in camel case or with dashes that NEWTREE has in snake case, and
 no longer as it was, turns in NEWTREE's .edit files, and in documents between backquotes and in indented lines; in edits old spellings of
-the language turn too.
+the language turn too. docs/changes keeps the spelling of its time.
 """
 import os
 import re
@@ -28,7 +28,7 @@ def texts(tree, *endings):
 
 def documents(tree):
     for folder, dirs, names in os.walk(tree):
-        dirs[:] = sorted(d for d in dirs if d not in ("out", "target", ".git"))
+        dirs[:] = sorted(d for d in dirs if d not in ("out", "target", ".git", "changes"))
         for name in sorted(names):
             if name.endswith(".md") and name != "PORT.md":
                 yield os.path.join(folder, name)
