@@ -7,7 +7,7 @@
 .PHONY: run test bench clean
 
 run:
-	@echo "Proves and builds tgsi_run: 3 to 8 minutes on 2 cores where nothing is proved yet. The prover's lines are in target/run.log."
+	@echo "Proves and builds tgsi_run: some 10 minutes where nothing is proved yet. The prover's lines are in target/run.log."
 	@mkdir -p target
 	@scripts/build tgsi_run >target/run.log 2>&1 || { cat target/run.log; exit 1; }
 	target/bin/tgsi_run examples/measure.bin examples/comma.words
