@@ -7,7 +7,7 @@ ghost use Rattle.std.specs.Int.Bits.{bit_and, bit_or, bit_xor};
 ghost use Rattle.words.specs.Word.{bit_in, compl, popc, lsb, umsb, imsb, brev};
 ghost use Rattle.bits.specs.Inner.Swaps.{swapped};
 
-use words::sums::LEAST32;
+use words::width::Word;
 
 pub mod shifts; // SHL USHR ISHR
 
@@ -72,7 +72,11 @@ pub fn umsb32(a: u32) -> u32
 pub fn imsb32(a: u32) -> u32
     ensures { result ≡ imsb 32 a }
 {
-    if a < LEAST32 { umsb32(a) } else { umsb32(!a) }
+    if a.is_negative() {
+        umsb32(!a)
+    } else {
+        umsb32(a)
+    }
 }
 
 // BREV. Halves change places, then the quarters of each half, and so on down to single bits.
@@ -98,10 +102,6 @@ fn swap(a: u32, distance: u32, mask: u32) -> u32
 pub fn bit_in(words: &[u32], i: usize) -> bool
     ensures { result ≡ bit_in words.now i }
 {
-    let w = i / 32;
-    if w < words.len() {
-        (words[w] >> (i % 32) as u32) % 2 == 1
-    } else {
-        false
-    }
+    let word = words.get(i / 32).copied().unwrap_or(0);
+    (word >> (i % 32) as u32) % 2 == 1
 }

@@ -4,7 +4,7 @@
 ghost use Rattle.std.specs.Prelude.{◌≡◌};
 ghost use Rattle.words.specs.Word.{flag, slt, smin, smax, umin, umax, ucmp, cas};
 
-use words::sums::{LEAST32, LEAST64, add32, add64};
+use words::width::Word;
 
 // What a comparison gives for a test.
 pub fn flag32(t: bool) -> u32
@@ -13,72 +13,37 @@ pub fn flag32(t: bool) -> u32
     if t { u32::MAX } else { 0 }
 }
 
-// ISLT, ISGE. Half the range added turns the signed order into the unsigned one.
-pub fn slt32(a: u32, b: u32) -> bool
-    ensures { result ≡ slt 32 a b }
+// ISLT, ISGE, I64SLT, I64SGE.
+pub fn slt<W: Word>(a: W, b: W) -> bool
+    ensures { result ≡ slt W.bits (W.value a) (W.value b) }
 {
-    add32(a, LEAST32) < add32(b, LEAST32)
+    a.signed_lt(b)
 }
 
-// I64SLT, I64SGE.
-pub fn slt64(a: u64, b: u64) -> bool
-    ensures { result ≡ slt 64 a b }
+// IMIN, I64MIN, ATOMIMIN.
+pub fn smin<W: Word>(a: W, b: W) -> W
+    ensures { W.value result ≡ smin W.bits (W.value a) (W.value b) }
 {
-    add64(a, LEAST64) < add64(b, LEAST64)
+    if slt(a, b) { a } else { b }
 }
 
-// IMIN, ATOMIMIN.
-pub fn smin32(a: u32, b: u32) -> u32
-    ensures { result ≡ smin 32 a b }
+// IMAX, I64MAX, ATOMIMAX.
+pub fn smax<W: Word>(a: W, b: W) -> W
+    ensures { W.value result ≡ smax W.bits (W.value a) (W.value b) }
 {
-    if slt32(a, b) { a } else { b }
+    if slt(a, b) { b } else { a }
 }
 
-// I64MIN.
-pub fn smin64(a: u64, b: u64) -> u64
-    ensures { result ≡ smin 64 a b }
-{
-    if slt64(a, b) { a } else { b }
-}
-
-// IMAX, ATOMIMAX.
-pub fn smax32(a: u32, b: u32) -> u32
-    ensures { result ≡ smax 32 a b }
-{
-    if slt32(a, b) { b } else { a }
-}
-
-// I64MAX.
-pub fn smax64(a: u64, b: u64) -> u64
-    ensures { result ≡ smax 64 a b }
-{
-    if slt64(a, b) { b } else { a }
-}
-
-// UMIN, ATOMUMIN.
-pub fn umin32(a: u32, b: u32) -> u32
-    ensures { result ≡ umin a b }
+// UMIN, U64MIN, ATOMUMIN.
+pub fn umin<W: Word>(a: W, b: W) -> W
+    ensures { W.value result ≡ umin (W.value a) (W.value b) }
 {
     if a < b { a } else { b }
 }
 
-// U64MIN.
-pub fn umin64(a: u64, b: u64) -> u64
-    ensures { result ≡ umin a b }
-{
-    if a < b { a } else { b }
-}
-
-// UMAX, ATOMUMAX.
-pub fn umax32(a: u32, b: u32) -> u32
-    ensures { result ≡ umax a b }
-{
-    if a < b { b } else { a }
-}
-
-// U64MAX.
-pub fn umax64(a: u64, b: u64) -> u64
-    ensures { result ≡ umax a b }
+// UMAX, U64MAX, ATOMUMAX.
+pub fn umax<W: Word>(a: W, b: W) -> W
+    ensures { W.value result ≡ umax (W.value a) (W.value b) }
 {
     if a < b { b } else { a }
 }

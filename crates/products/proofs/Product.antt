@@ -1,4 +1,4 @@
--- Products: the bound of one, the low half of two numbers of two digits, and the upper half of the signed product by the magnitudes.
+-- Products: the bound of one, a sum after one, and the upper half of the signed product by the magnitudes.
 use Rattle.words.specs.Word.{add, iabs, imulhi, mul, neg, signed, umad, word}
 use Rattle.words.proofs.Signed.{abs_lt, iabs_is, signed_high, signed_low, word_negsuc, word_pos}
 use Rattle.words.proofs.Numbers.{complement_shr}
@@ -6,6 +6,9 @@ use Prim.Native.Nat.{◌%◌, ◌*◌, ◌+◌, ◌-◌, ◌/◌, ◌<◌, ◌^�
 use mathlib.Core.Path.{◌∙◌, ◌≡◌, ap, ap₂, sym}
 use native.Mathlib.Omega.{arith}
 use native.Mathlib.Nat.{add_assoc, add_comm, add_left_comm, add-mod, add-mul, div-add-mod', le_of_lt, lt_of_le_of_lt, mod-add-mod, mod-eq_of_lt, mod_self, mul-add, mul-add-div_right, mul-add-mod_self_right, mul_assoc, mul_comm, mul-le-mul_left, mul_left_comm, mul-lt-mul_of_pos_right, sub-zero, zero-div}
+use mathlib.Core.Bool.{Bool, beq, false, true}
+use borrow.Author.Tests.{leb-false, leb-true}
+use lib.Dec.{leb}
 use lib.Pow.{pow-add, pow_pos, shr_lt}
 use lib.Arith.{mod-mul}
 use lib.IntN.{nat_abs, neg_ℤ, pos}
@@ -15,30 +18,6 @@ use lib.Signed.{shr_z}
 pub product_lt : (k : ℕ) {a b : ℕ} → a < 2 ^ k → b < 2 ^ k → a * b < 2 ^ (k + k)
 product_lt k {a} {b} ha hb =
     rw pow-add (lt_of_le_of_lt (mul-le-mul_left a (le_of_lt hb)) (mul-lt-mul_of_pos_right ha (pow_pos k)))
-
--- the product of two numbers of two digits, in base P, without its upper two digits
-mul_digits : (P a₀ a₁ b₀ b₁ : ℕ) → zero < P
-    → (a₁ * b₀ % P + a₀ * b₁ % P + a₀ * b₀ / P) % P * P + a₀ * b₀ % P ≡ (a₁ * P + a₀) * (b₁ * P + b₀) % (P * P)
-mul_digits P a₀ a₁ b₀ b₁ h =
-    let e : (a₁ * P + a₀) * (b₁ * P + b₀) ≡ a₁ * b₁ * (P * P) + ((a₁ * b₀ + a₀ * b₁) * P + a₀ * b₀) =
-    simp (mul-add, add-mul, mul_assoc, mul_comm, mul_left_comm, add_assoc, add_comm, add_left_comm) in
-    sym
-    (ap (λ (k : ℕ). k % (P * P)) e
-    ∙ mul-add-mod_self_right (a₁ * b₁) (P * P) ((a₁ * b₀ + a₀ * b₁) * P + a₀ * b₀)
-    ∙ mod-mul ((a₁ * b₀ + a₀ * b₁) * P + a₀ * b₀) h h
-    ∙ ap (λ (k : ℕ). k % P * P + ((a₁ * b₀ + a₀ * b₁) * P + a₀ * b₀) % P) (mul-add-div_right h (a₁ * b₀ + a₀ * b₁) (a₀ * b₀))
-    ∙ ap (λ (k : ℕ). (a₁ * b₀ + a₀ * b₁ + a₀ * b₀ / P) % P * P + k) (mul-add-mod_self_right (a₁ * b₀ + a₀ * b₁) P (a₀ * b₀))
-    ∙ ap (λ (k : ℕ). k * P + a₀ * b₀ % P)
-    (sym (mod-add-mod (a₁ * b₀ + a₀ * b₁) P (a₀ * b₀ / P)) ∙ ap (λ (k : ℕ). (k + a₀ * b₀ / P) % P) (add-mod (a₁ * b₀) (a₀ * b₁) P)
-    ∙ mod-add-mod (a₁ * b₀ % P + a₀ * b₁ % P) P (a₀ * b₀ / P)))
-
--- the same in base 2 ^ w, with the three products as they were taken
-pub mul_halves : (w a b l x y : ℕ) → l ≡ a % 2 ^ w * (b % 2 ^ w) → x ≡ a / 2 ^ w * (b % 2 ^ w) → y ≡ a % 2 ^ w * (b / 2 ^ w)
-    → (x % 2 ^ w + y % 2 ^ w + l / 2 ^ w) % 2 ^ w * 2 ^ w + l % 2 ^ w ≡ a * b % (2 ^ w * 2 ^ w)
-mul_halves w a b l x y el ex ey =
-    rw (el, ex, ey)
-    (mul_digits (2 ^ w) (a % 2 ^ w) (a / 2 ^ w) (b % 2 ^ w) (b / 2 ^ w) (pow_pos w)
-    ∙ ap₂ (λ (x y : ℕ). x * y % (2 ^ w * 2 ^ w)) (div-add-mod' a (2 ^ w)) (div-add-mod' b (2 ^ w)))
 
 -- a product, and then a sum
 pub umad_is : (w a b c p r : ℕ) → p ≡ mul w a b → r ≡ add w p c → r ≡ umad w a b c
@@ -59,8 +38,8 @@ module _ (w : ℕ) (halves : 2 ^ w ≡ 2 ^ (w - 1) + 2 ^ (w - 1)) where
 
   module _ (a b : ℕ) (la : a < 2 ^ w) (lb : b < 2 ^ w) where
     -- the product of what IABS gives is that of the magnitudes
-    pub magnitudes : (m n p : ℕ) → m ≡ iabs w a → n ≡ iabs w b → p ≡ m * n → p ≡ nat_abs (signed w a) * nat_abs (signed w b)
-    magnitudes m n p em en ep = cc (iabs_is w halves a la, iabs_is w halves b lb)
+    pub magnitudes_are : (m n p : ℕ) → m ≡ iabs w a → n ≡ iabs w b → p ≡ m * n → p ≡ nat_abs (signed w a) * nat_abs (signed w b)
+    magnitudes_are m n p em en ep = cc (iabs_is w halves a la, iabs_is w halves b lb)
 
     magnitudes_lt : nat_abs (signed w a) * nat_abs (signed w b) < 2 ^ (w + w)
     magnitudes_lt = product_lt w (abs_lt w halves a la) (abs_lt w halves b lb)
@@ -68,15 +47,27 @@ module _ (w : ℕ) (halves : 2 ^ w ≡ 2 ^ (w - 1) + 2 ^ (w - 1)) where
     magnitudes_high : word w (pos (nat_abs (signed w a) * nat_abs (signed w b) / 2 ^ w)) ≡ nat_abs (signed w a) * nat_abs (signed w b) / 2 ^ w
     magnitudes_high = word_pos w halves _ (shr_lt w w magnitudes_lt)
 
-    module _ (p : ℕ) (e : p ≡ nat_abs (signed w a) * nat_abs (signed w b)) where
-      pub imulhi_low_low : a < 2 ^ (w - 1) → b < 2 ^ (w - 1) → p / 2 ^ w ≡ imulhi w a b
-      imulhi_low_low ha hb = cc (signed_low w halves a ha, signed_low w halves b hb, magnitudes_high)
+    -- where the signs are the same, and where they are not
+    module _ (p : ℕ) (magnitudes : p ≡ nat_abs (signed w a) * nat_abs (signed w b)) (s t : Bool) (es : s ≡ leb (2 ^ (w - 1)) a) (et : t ≡ leb (2 ^ (w - 1)) b)
+      where
+        pub imulhi_same : beq s t ≡ true → p / 2 ^ w ≡ imulhi w a b
+        imulhi_same h = on s t es et h
+          where
+            on : (s t : Bool) → s ≡ leb (2 ^ (w - 1)) a → t ≡ leb (2 ^ (w - 1)) b → beq s t ≡ true → p / 2 ^ w ≡ imulhi w a b
+            on false false es et h =
+                cc (magnitudes, signed_low w halves a (leb-false _ a (sym es)), signed_low w halves b (leb-false _ b (sym et)), magnitudes_high)
+            on true true es et h =
+                cc (magnitudes, signed_high w halves a (leb-true _ a (sym es)) la, signed_high w halves b (leb-true _ b (sym et)) lb, magnitudes_high)
+            on false true es et h = cc
+            on true false es et h = cc
 
-      pub imulhi_high_high : 2 ^ (w - 1) ≤ a → 2 ^ (w - 1) ≤ b → p / 2 ^ w ≡ imulhi w a b
-      imulhi_high_high ha hb = cc (signed_high w halves a ha la, signed_high w halves b hb lb, magnitudes_high)
-
-      pub imulhi_low_high : (r : ℕ) → r ≡ neg (w + w) p → a < 2 ^ (w - 1) → 2 ^ (w - 1) ≤ b → r / 2 ^ w ≡ imulhi w a b
-      imulhi_low_high r er ha hb = cc (signed_low w halves a ha, signed_high w halves b hb lb, minus_high _ magnitudes_lt)
-
-      pub imulhi_high_low : (r : ℕ) → r ≡ neg (w + w) p → 2 ^ (w - 1) ≤ a → b < 2 ^ (w - 1) → r / 2 ^ w ≡ imulhi w a b
-      imulhi_high_low r er ha hb = cc (signed_high w halves a ha la, signed_low w halves b hb, minus_high _ magnitudes_lt)
+        pub imulhi_other : (r : ℕ) → r ≡ neg (w + w) p → beq s t ≡ false → r / 2 ^ w ≡ imulhi w a b
+        imulhi_other r er h = on s t es et h
+          where
+            on : (s t : Bool) → s ≡ leb (2 ^ (w - 1)) a → t ≡ leb (2 ^ (w - 1)) b → beq s t ≡ false → r / 2 ^ w ≡ imulhi w a b
+            on false true es et h =
+                cc (magnitudes, signed_low w halves a (leb-false _ a (sym es)), signed_high w halves b (leb-true _ b (sym et)) lb, minus_high _ magnitudes_lt)
+            on true false es et h =
+                cc (magnitudes, signed_high w halves a (leb-true _ a (sym es)) la, signed_low w halves b (leb-false _ b (sym et)), minus_high _ magnitudes_lt)
+            on false false es et h = cc
+            on true true es et h = cc

@@ -5,12 +5,12 @@ ghost use Rattle.std.specs.Prelude.{◌≡◌};
 ghost use Rattle.results.specs.Arithmetic.{atomic, result_word};
 
 use bitfields::{bfi32, ibfe32, ubfe32};
-use bits::shifts::{ishr32, shl32, ushr32};
+use bits::shifts::{ishr, shl, ushr};
 use bits::{and32, brev32, imsb32, lsb32, not32, or32, popc32, umsb32, xor32};
-use division::{sdiv32, srem32, udiv32, urem32};
-use order::{flag32, slt32, smax32, smin32, ucmp32, umax32, umin32};
-use products::{imulhi32, mul32, umad32, umulhi32};
-use words::sums::{add32, iabs32, neg32, ssg32};
+use division::{sdiv, srem, udiv, urem};
+use order::{flag32, slt, smax, smin, ucmp32, umax, umin};
+use products::{imulhi32, mul, umad32, umulhi32};
+use words::sums::{add, iabs, neg, ssg};
 
 pub mod wide;
 
@@ -21,36 +21,36 @@ pub fn word(kind: u8, a: u32, b: u32, c: u32, d: u32) -> u32
     match kind {
         0x10 => a,
         0x11 => not32(a),
-        0x12 => neg32(a),
-        0x13 => iabs32(a),
-        0x14 => ssg32(a),
+        0x12 => neg(a),
+        0x13 => iabs(a),
+        0x14 => ssg(a),
         0x15 => brev32(a),
         0x16 => popc32(a),
         0x17 => lsb32(a),
         0x18 => imsb32(a),
         0x19 => umsb32(a),
         0x1a => a,
-        0x20 => add32(a, b),
-        0x21 => mul32(a, b),
+        0x20 => add(a, b),
+        0x21 => mul(a, b),
         0x22 => imulhi32(a, b),
         0x23 => umulhi32(a, b),
-        0x24 => sdiv32(a, b),
-        0x25 => udiv32(a, b),
-        0x26 => srem32(a, b),
-        0x27 => urem32(a, b),
+        0x24 => sdiv(a, b),
+        0x25 => udiv(a, b),
+        0x26 => srem(a, b),
+        0x27 => urem(a, b),
         0x28 => and32(a, b),
         0x29 => or32(a, b),
         0x2a => xor32(a, b),
-        0x2b => smin32(a, b),
-        0x2c => smax32(a, b),
-        0x2d => umin32(a, b),
-        0x2e => umax32(a, b),
-        0x2f => shl32(a, b),
-        0x30 => ishr32(a, b),
-        0x31 => ushr32(a, b),
-        0x32 => flag32(slt32(a, b)),
+        0x2b => smin(a, b),
+        0x2c => smax(a, b),
+        0x2d => umin(a, b),
+        0x2e => umax(a, b),
+        0x2f => shl(a, b),
+        0x30 => ishr(a, b),
+        0x31 => ushr(a, b),
+        0x32 => flag32(slt(a, b)),
         0x33 => flag32(a < b),
-        0x34 => flag32(!slt32(a, b)),
+        0x34 => flag32(!slt(a, b)),
         0x35 => flag32(b <= a),
         0x36 => flag32(a == b),
         0x37 => flag32(a != b),
@@ -68,16 +68,16 @@ pub fn atomic_word(kind: u8, old: u32, b: u32) -> u32
     ensures { result ≡ atomic kind old b }
 {
     match kind {
-        0x56 => smin32(old, b),
-        0x57 => smax32(old, b),
+        0x56 => smin(old, b),
+        0x57 => smax(old, b),
         0x58 => old,
-        0x59 => add32(old, b),
+        0x59 => add(old, b),
         0x5a => b,
         0x5b => and32(old, b),
         0x5c => or32(old, b),
         0x5d => xor32(old, b),
-        0x5e => umin32(old, b),
-        0x5f => umax32(old, b),
+        0x5e => umin(old, b),
+        0x5f => umax(old, b),
         _ => 0,
     }
 }

@@ -2,11 +2,11 @@
 ghost use Rattle.std.specs.Prelude.{◌≡◌};
 ghost use Rattle.results.specs.Arithmetic.{wide_unary, wide, pair, halves, count_or, wide_unary_of, wide_of};
 
-use bits::shifts::{ishr64, shl64, ushr64};
-use division::{sdiv64, srem64, udiv64, urem64};
-use order::{flag32, slt64, smax64, smin64, umax64, umin64};
-use products::mul64;
-use words::sums::{add64, iabs64, neg64, ssg64};
+use bits::shifts::{ishr, shl, ushr};
+use division::{sdiv, srem, udiv, urem};
+use order::{flag32, slt, smax, smin, umax, umin};
+use products::mul;
+use words::sums::{add, iabs, neg, ssg};
 
 fn pair_of(low: u32, high: u32) -> u64
     ensures { result ≡ pair low high }
@@ -29,9 +29,9 @@ fn wide_unary_value(kind: u8, a: u64) -> u64
     ensures { result ≡ wide_unary kind a }
 {
     match kind {
-        0x1b => iabs64(a),
-        0x1c => neg64(a),
-        0x1d => ssg64(a),
+        0x1b => iabs(a),
+        0x1c => neg(a),
+        0x1d => ssg(a),
         _ => 0,
     }
 }
@@ -48,25 +48,25 @@ fn wide_value(kind: u8, a: u64, b: u64) -> u64
     ensures { result ≡ wide kind a b }
 {
     match kind {
-        0x40 => add64(a, b),
-        0x41 => mul64(a, b),
-        0x42 => udiv64(a, b),
-        0x43 => urem64(a, b),
-        0x44 => sdiv64(a, b),
-        0x45 => srem64(a, b),
-        0x46 => umin64(a, b),
-        0x47 => umax64(a, b),
-        0x48 => smin64(a, b),
-        0x49 => smax64(a, b),
-        0x4a => shl64(a, b),
-        0x4b => ishr64(a, b),
-        0x4c => ushr64(a, b),
+        0x40 => add(a, b),
+        0x41 => mul(a, b),
+        0x42 => udiv(a, b),
+        0x43 => urem(a, b),
+        0x44 => sdiv(a, b),
+        0x45 => srem(a, b),
+        0x46 => umin(a, b),
+        0x47 => umax(a, b),
+        0x48 => smin(a, b),
+        0x49 => smax(a, b),
+        0x4a => shl(a, b),
+        0x4b => ishr(a, b),
+        0x4c => ushr(a, b),
         0x4d => flag32(a == b) as u64,
         0x4e => flag32(a != b) as u64,
         0x4f => flag32(a < b) as u64,
         0x50 => flag32(b <= a) as u64,
-        0x51 => flag32(slt64(a, b)) as u64,
-        0x52 => flag32(!slt64(a, b)) as u64,
+        0x51 => flag32(slt(a, b)) as u64,
+        0x52 => flag32(!slt(a, b)) as u64,
         _ => 0,
     }
 }

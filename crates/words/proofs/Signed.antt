@@ -1,10 +1,28 @@
 -- Two's complement over the width: a word's signed value and back, its magnitude, its sign and the signed shift.
--- The laws go by the sign, a word in the lower half of the range or in the upper; they are cited as `LAW 32 refl` and `LAW 64 refl`.
-use Rattle.words.specs.Word.{iabs, neg, signed, ssg, word}
+-- The laws go by the sign, a word in the lower half of the range or in the upper; they are cited as `LAW 32 refl`, and in a function
+-- over `Word` at its `bits` with its `halves`.
+use Rattle.words.specs.Word.{compl, iabs, neg, signed, slt, ssg, word}
 use Rattle.words.proofs.Numbers.{below_or_not}
 use Rattle.std.proofs.Common.{◌≡◌, ℕ, zero, suc, ◌+◌, ◌-◌, ◌/◌, ◌%◌, ◌^◌, ◌<◌, ◌≤◌, ℤ, pos, negsuc, neg_ℤ, nat_abs, sym, ap, ◌∙◌, ⊎_elim, mod-eq_of_lt, pos_of_ne-zero, div-le_self, arith, pow_pos, le-ltb, lt-ltb}
 use native.Mathlib.Nat.{mod_self, sub-zero, zero-mod}
-use lib.Signed.{shr_z}
+use lib.Signed.{lt_z, shr_z}
+use Rattle.std.specs.Int.{Width, cast_signed, cast_unsigned}
+use mir.Val.{bits, hbits}
+use Rattle.std.proofs.lemmas.Int.{of_z-to_z}
+
+-- ---- the numbers of the signed types
+
+cast_is : (w : Width) → bits w - 1 ≡ hbits w → (a : ℕ) → a < 2 ^ bits w → cast_signed w a ≡ signed (bits w) a
+unfolding signed
+cast_is w e a l =
+    ⊎_elim (λ (h : a < 2 ^ hbits w). simp (e, lt-ltb a (2 ^ hbits w) h)) (λ (h : 2 ^ hbits w ≤ a). simp (e, le-ltb a (2 ^ hbits w) h, lt-ltb a (2 ^ bits w) l))
+    (below_or_not a (2 ^ hbits w))
+
+-- the order of the signed types, whose numbers stand as their bits
+pub signed_order : (w : Width) → bits w - 1 ≡ hbits w → (a b : ℕ) (x y : ℤ) → a < 2 ^ bits w → b < 2 ^ bits w → x ≡ cast_signed w a → y ≡ cast_signed w b
+    → lt_z (cast_signed w (cast_unsigned w x)) (cast_signed w (cast_unsigned w y)) ≡ slt (bits w) a b
+signed_order w e a b x y la lb ex ey =
+    rw (ex, ey, of_z-to_z w a la, of_z-to_z w b lb, cast_is w e a la, cast_is w e b lb)
 
 module _ (w : ℕ) (halves : 2 ^ w ≡ 2 ^ (w - 1) + 2 ^ (w - 1)) where
   pub by_sign : {P : Type 0} (a : ℕ) → (a < 2 ^ (w - 1) → P) → (2 ^ (w - 1) ≤ a → P) → P
@@ -69,26 +87,26 @@ module _ (w : ℕ) (halves : 2 ^ w ≡ 2 ^ (w - 1) + 2 ^ (w - 1)) where
 
   -- ---- the sign
 
-  pub ssg_zero : (a : ℕ) → a ≡ 0 → 0 ≡ ssg w a
+  pub ssg_zero : (a : ℕ) → a ≡ 0 → a ≡ ssg w a
   unfolding ssg
-  ssg_zero a e = sym (ap (ssg w) e ∙ simp (signed_low 0 (pow_pos (w - 1))))
+  ssg_zero a e = e ∙ sym (ap (ssg w) e ∙ simp (signed_low 0 (pow_pos (w - 1))))
 
-  pub ssg_low : (a : ℕ) → (a ≡ 0 → ⊥) → a < 2 ^ (w - 1) → 1 ≡ ssg w a
+  pub ssg_low : (a r : ℕ) → r ≡ 1 → (a ≡ 0 → ⊥) → a < 2 ^ (w - 1) → r ≡ ssg w a
   unfolding ssg
-  ssg_low a n h = simp (signed_low a h, le-ltb a 0 (omega arith), lt-ltb 0 a (pos_of_ne-zero n))
+  ssg_low a r e n h = rw e (simp (signed_low a h, le-ltb a 0 (omega arith), lt-ltb 0 a (pos_of_ne-zero n)))
 
-  pub ssg_high : (a : ℕ) → a < 2 ^ w → 2 ^ (w - 1) ≤ a → 2 ^ w - 1 ≡ ssg w a
+  pub ssg_high : (a z r : ℕ) → z ≡ 0 → r ≡ compl w z → a < 2 ^ w → 2 ^ (w - 1) ≤ a → r ≡ ssg w a
   unfolding ssg
-  ssg_high a l h = simp (signed_high a h l)
+  ssg_high a z r ez e l h = rw (e, ez) (simp (signed_high a h l, sub-zero))
 
   -- ---- the shift: a negative word's complement is shifted
 
-  pub ishr_low : (a m : ℕ) → a < 2 ^ w → a < 2 ^ (w - 1) → a / m ≡ word w (shr_z (signed w a) m)
-  ishr_low a m l h = cc (signed_low a h, word_pos (a / m) (omega (arith, div-le_self a m)))
+  pub ishr_low : (a m r : ℕ) → r ≡ a / m → a < 2 ^ w → a < 2 ^ (w - 1) → r ≡ word w (shr_z (signed w a) m)
+  ishr_low a m r e l h = cc (signed_low a h, word_pos (a / m) (omega (arith, div-le_self a m)))
 
-  pub ishr_high : (a m : ℕ) → a < 2 ^ w → 2 ^ (w - 1) ≤ a → 2 ^ w - 1 - (2 ^ w - 1 - a) / m ≡ word w (shr_z (signed w a) m)
-  ishr_high a m l h =
-      let e : 2 ^ w - 1 - a ≡ 2 ^ w - suc a = omega arith in
-      ap (λ (n : ℕ). 2 ^ w - 1 - n / m) e
+  pub ishr_high : (a m n s r : ℕ) → n ≡ compl w a → s ≡ n / m → r ≡ compl w s → a < 2 ^ w → 2 ^ (w - 1) ≤ a → r ≡ word w (shr_z (signed w a) m)
+  ishr_high a m n s r en es er l h =
+      let e : n ≡ 2 ^ w - suc a = omega arith in
+      er ∙ ap (compl w) (es ∙ ap (λ (k : ℕ). k / m) e)
       ∙ sym (ap (λ (z : ℤ). word w (shr_z z m)) (signed_high a h l)
       ∙ word_negsuc ((2 ^ w - suc a) / m) (omega (arith, div-le_self (2 ^ w - suc a) m)))

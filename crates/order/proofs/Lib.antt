@@ -1,2 +1,0 @@
-pub mod SignedOrder
-pub mod Least
