@@ -94,12 +94,13 @@ pub fn is_declared(d: Declared, file: u8, index: usize) -> bool
 }
 
 // Whether some register of a file is declared.
+#[tactic(auto, unfolding(crate::specs::Sets::is_in), using(crate::proofs::Files::some_declared))]
 pub fn is_file_declared(d: Declared, file: u8) -> bool
     ensures { result ≡ any_of (is_in d file) 0 (registers_of file) }
 {
     let words = d.words_of(file);
     match file {
-        // The files of one register, the first of their word's bits.
+        // A file of one register has the first bit of its word.
         ADDR | MEM => bit_in(words, 0),
         _ => has_some(words),
     }
@@ -125,6 +126,7 @@ pub fn overlaps(d: Declared, more: Declaration) -> bool
 }
 
 // The set with the registers of a file from first to last more.
+#[tactic(auto, unfolding(crate::specs::Sets::is_in))]
 fn with_range(d: Declared, file: u8, first: u16, last: u16) -> Declared
     requires { (first ≤ last) × (last < registers_of file) }
     ensures { is_in result ≡ with_range (is_in d) file first last }
