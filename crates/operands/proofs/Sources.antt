@@ -1,48 +1,51 @@
 -- The operands of an instruction, one after the other.
 -- Assumes nothing.
-use mathlib.Core.Path.{◌≡◌, sym, ap, ◌∙◌}
-use mathlib.Core.Bool.{Bool, true, false, not, ◌&&◌, ◌||◌}
+use mathlib.Core.Path.{◌≡◌, refl, sym}
+use mathlib.Core.Bool.{Bool, true, false, ◌&&◌, ◌||◌}
 use mathlib.Core.List.{List}
-use Prim.Native.Nat.{ℕ, suc, ◌+◌, ◌-◌, ◌*◌}
+use Prim.Native.Nat.{ℕ, zero, suc, ◌+◌, ◌*◌, ◌<◌}
 use native.Mathlib.Omega.{arith}
-use lib.Dec.{eqb, ltb}
-use borrow.Author.Tests.{eq-eqb, ne_eqb, not-true, not-false}
-use Rattle.format.specs.Files.{ADDR, IMM, MEM, registers_of}
+use native.Mathlib.Nat.{add-zero, zero-add, mul-zero}
+use lib.ListN.{length}
+use Rattle.std.specs.List.{AllWithin, HoldsAt, range_with_len}
+use Rattle.std.specs.Bool.{MatchBool}
+use Rattle.std.proofs.lemmas.List.FromFn.{get_or-range_with_len, length-range_with_len}
+use Rattle.registers.proofs.Choices.{and_false}
+use lib.Dec.{eqb}
 use Rattle.format.specs.Kinds.{destinations, sources, form_of, first_source}
-use Rattle.format.specs.Fields.{destination_at, source_at, indirection}
+use Rattle.format.specs.Fields.{destination_at, source_at}
 use Rattle.format.specs.declared.fields.Destination.{Destination}
 use Rattle.format.specs.declared.fields.Source.{Source}
-use Rattle.registers.specs.Sets.{Registers, any_of}
-use Rattle.registers.specs.Rules.{memory_kind, destination_file, all_sources, all_operands}
-use Rattle.registers.specs.Found.{destination_found, source_found, operands_found}
+use Rattle.registers.specs.Rules.{all_sources, all_operands}
 
--- ---- One source after the other
+-- ---- The sources by their numbers
 
-module _ (asked : Source → Bool) (file : List ℕ) (p left : ℕ) where
-  all_step : (left ≡ 0 → ⊥) → all_sources asked file p left ≡ (asked (source_at file p) && all_sources asked file (p + 5) (left - 1))
-  all_step h =
-      let e : left ≡ suc (left - 1) = omega arith in
-      ap (all_sources asked file p) e
+module _ (rule : Source → Bool) (file : List ℕ) where
+  all_kept : (n p : ℕ) → ((i : ℕ) → i < n → rule (source_at file (p + 5 * i)) ≡ true) → all_sources rule file p n ≡ true
+  all_kept zero p each = refl
+  all_kept (suc n) p each =
+      let here : rule (source_at file p) ≡ true = rw (mul-zero 5, add-zero p) at (each 0 (omega arith)) in
+      let later : all_sources rule file (p + 5) n ≡ true = all_kept n (p + 5) (λ i h. let e : p + 5 + 5 * i ≡ p + 5 * suc i = omega arith in rw e (each (suc i) (omega arith))) in
+      rw (here, later)
 
-  module _ (w : Bool) (whole : w ≡ all_sources asked file p left) where
-    pub sources_end : left ≡ 0 → true ≡ w
-    sources_end z = sym (whole ∙ rw z)
+  one_broken : (n p k : ℕ) → k < n → rule (source_at file (p + 5 * k)) ≡ false → all_sources rule file p n ≡ false
+  one_broken zero p k h broken = absurd (omega arith)
+  one_broken (suc n) p zero h broken = rw (rw (mul-zero 5, add-zero p) at broken)
+  one_broken (suc n) p (suc k) h broken =
+      let e : p + 5 + 5 * k ≡ p + 5 * suc k = omega arith in
+      let later : all_sources rule file (p + 5) n ≡ false = one_broken n (p + 5) k (omega arith) (rw e broken) in
+      rw (later, and_false)
 
-    module _ (s : Source) (x : Bool) (more : left ≡ 0 → ⊥) (here : s ≡ source_at file p) (answer : x ≡ asked s) where
-      step_by : w ≡ (x && all_sources asked file (p + 5) (left - 1))
-      step_by = whole ∙ all_step more ∙ rw (answer, here)
-
-      pub sources_stop : not x ≡ true → false ≡ w
-      sources_stop e = sym (step_by ∙ rw (not-true x e))
-
-      pub sources_on : not x ≡ false → w ≡ all_sources asked file (p + 5) (left - 1)
-      sources_on e = step_by ∙ rw (not-false x e)
+  pub all_by : (p n : ℕ) (r : Bool)
+      → MatchBool r (AllWithin (λ i. rule (source_at file (p + 5 * i)) ≡ true) (range_with_len 0 n) 0 (length (range_with_len 0 n)))
+      ((k : ℕ) × (k < length (range_with_len 0 n)) × HoldsAt (λ i. rule (source_at file (p + 5 * i)) ≡ false) (range_with_len 0 n) k)
+      → r ≡ all_sources rule file p n
+  all_by p n true each = sym (all_kept n p (λ i h. rw (get_or-range_with_len, zero-add) at (each i 0 (omega arith) (omega (arith, length-range_with_len 0 n)))))
+  all_by p n false (k, h, broken) =
+      let l : k < n = omega (arith, length-range_with_len 0 n) in
+      sym (one_broken n p k l (rw (get_or-range_with_len, zero-add) at (broken 0)))
 
 -- ---- The destination, and the sources after it
-
-pub sources_begin : (asked : Source → Bool) (file : List ℕ) (at kind first n : ℕ) → first ≡ first_source kind → n ≡ sources (form_of kind)
-    → all_sources asked file (at + first_source kind) (sources (form_of kind)) ≡ all_sources asked file (at + first) n
-sources_begin asked file at kind first n begins ns = rw (begins, ns)
 
 pub all_operands_is : (kind d : ℕ) (askedD : Destination → Bool) (askedS : Source → Bool) (file : List ℕ) (at : ℕ) (r : Destination) (x y : Bool)
     → d ≡ destinations (form_of kind)
@@ -52,32 +55,3 @@ pub all_operands_is : (kind d : ℕ) (askedD : Destination → Bool) (askedS : S
     → ((eqb d 0 || x) && y) ≡ all_operands kind askedD askedS file at
 unfolding all_operands
 all_operands_is kind d askedD askedS file at r x y ds here answer rest = rw (rest, answer, here, ds)
-
--- ---- What a source names
-
-module _ (declared : Registers) (words : ℕ) (s : Source) where
-  pub source_indirect : (k : ℕ) (a b : Bool) → k ≡ indirection s → (k ≡ 0 → ⊥) → a ≡ declared ADDR 0 → b ≡ any_of (declared s.file) 0 (registers_of s.file)
-      → (a && b) ≡ source_found declared words s
-  unfolding source_found
-  source_indirect k a b i h e f = rw (← i, ne_eqb k 0 h, e, f)
-
-  pub source_immediate : (k : ℕ) → k ≡ indirection s → k ≡ 0 → s.file ≡ IMM → ltb (4 * s.index) words ≡ source_found declared words s
-  unfolding source_found
-  source_immediate k i h e = rw (← i, eq-eqb k 0 h, eq-eqb _ _ e)
-
-  pub source_register : (k : ℕ) (x : Bool) → k ≡ indirection s → k ≡ 0 → (s.file ≡ IMM → ⊥) → x ≡ declared s.file s.index → x ≡ source_found declared words s
-  unfolding source_found
-  source_register k x i h e f = rw (← i, eq-eqb k 0 h, ne_eqb _ _ e) f
-
--- The side of the rule that a kind picks. It stands in the conclusion, computed: no other side fits.
-pub written_by : (k kind f : ℕ) → kind ≡ k → destination_file k f ≡ destination_file kind f
-written_by k kind f e = rw e
-
-pub same_and : (a b c d : Bool) → a ≡ c → b ≡ d → (a && b) ≡ (c && d)
-same_and a b c d e f = cc
-
-pub all_found : (kind : ℕ) (declared : Registers) (words : ℕ) (file : List ℕ) (at : ℕ) (a m x : Bool)
-    → a ≡ all_operands kind (destination_found declared) (source_found declared words) file at → m ≡ memory_kind kind → x ≡ declared MEM 0
-    → (a && (not m || x)) ≡ operands_found kind declared words file at
-unfolding operands_found
-all_found kind declared words file at a m x e f g = rw (e, f, g)

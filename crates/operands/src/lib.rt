@@ -2,7 +2,8 @@
 // `registers`, specs/Rules.antt and specs/Found.antt say what these are.
 #![tactic(auto)]
 
-ghost use Rattle.std.specs.Prelude.{◌≡◌, ◌+◌};
+ghost use Rattle.std.specs.Prelude.{◌≡◌, ◌+◌, Bool};
+ghost use Rattle.format.specs.declared.fields.Source.{Source};
 ghost use Rattle.format.specs.Kinds.{sources, form_of, first_source};
 ghost use Rattle.registers.specs.Rules.{may_negate, memory_kind, destination_file, mask_rule, destination_rule, source_rule, all_sources, all_operands, operand_rules};
 ghost use Rattle.registers.specs.Sets.{is_in};
@@ -52,12 +53,14 @@ fn may_mask(kind: u8, mask: u8) -> bool
     (1 <= mask) & (mask <= 15)
 }
 
+#[tactic(auto, unfolding(registers::specs::Rules::destination_rule))]
 fn destination_allowed(kind: u8, d: Destination) -> bool
     ensures { result ≡ destination_rule kind d }
 {
     may_write(kind, d.file) & may_mask(kind, d.mask)
 }
 
+#[tactic(auto, unfolding(registers::specs::Rules::source_rule))]
 fn source_allowed(kind: u8, s: Source) -> bool
     ensures { result ≡ source_rule kind s }
 {
@@ -71,20 +74,14 @@ fn source_allowed(kind: u8, s: Source) -> bool
         & ((kind != 0x92) | ((file == IMM) & (modifier == 0)))
 }
 
-// Whether the sources of an instruction of a kind at a place keep the rules.
-fn sources_allowed(kind: u8, file: &[u8], at: u32) -> bool
-    ensures { result ≡ all_sources (source_rule kind) file.now (at + first_source kind) (sources (form_of kind)) }
+// Whether the sources of an instruction of a kind at a place are all as asked, by any rule that `asked` computes.
+fn all_sources<F: Fn(Source) -> bool>(kind: u8, file: &[u8], at: u32, asked: F) -> bool
+    requires { F.IsAlwaysCallable asked }
+    ensures { (rule : Source → Bool) → ((s : Source) (r : Bool) → F.post asked s r → r ≡ rule s)
+        → result ≡ all_sources rule file.now (at + first_source kind) (sources (form_of kind)) }
 {
-    let mut place = at as usize + first_source(kind) as usize;
-    let mut left = sources_of(kind);
-    while left != 0 {
-        if !source_allowed(kind, readers::source_at(file, place)) {
-            return false;
-        }
-        place += 5;
-        left -= 1;
-    }
-    true
+    let first = at as usize + first_source(kind) as usize;
+    (0..sources_of(kind)).all(|i| asked(readers::source_at(file, first + 5 * i as usize)))
 }
 
 // Whether the operands of an instruction of a kind at a place keep the rules.
@@ -93,11 +90,12 @@ pub fn rules_kept(kind: u8, file: &[u8], at: u32) -> bool
 {
     let destination = readers::destination_at(file, at as usize + 1);
     ((destinations_of(kind) == 0) | destination_allowed(kind, destination))
-        & sources_allowed(kind, file, at)
+        & all_sources(kind, file, at, |s| source_allowed(kind, s))
 }
 
 // Whether what a source names is there: a declared register, one of so many immediates' words, or for an indirect source
 // ADDR and some register of its file.
+#[tactic(auto, unfolding(registers::specs::Found::source_found))]
 fn source_found(d: Declared, words: usize, s: Source) -> bool
     ensures { result ≡ source_found (is_in d) words s }
 {
@@ -110,22 +108,6 @@ fn source_found(d: Declared, words: usize, s: Source) -> bool
         return 4 * index < words;
     }
     sets::is_declared(d, file, index)
-}
-
-// Whether what the sources of an instruction of a kind at a place name is there.
-fn sources_found(kind: u8, d: Declared, words: usize, file: &[u8], at: u32) -> bool
-    ensures { result ≡ all_sources (source_found (is_in d) words) file.now (at + first_source kind) (sources (form_of kind)) }
-{
-    let mut place = at as usize + first_source(kind) as usize;
-    let mut left = sources_of(kind);
-    while left != 0 {
-        if !source_found(d, words, readers::source_at(file, place)) {
-            return false;
-        }
-        place += 5;
-        left -= 1;
-    }
-    true
 }
 
 // Whether the register that a destination names is declared.
@@ -141,10 +123,11 @@ fn registers_found(kind: u8, d: Declared, words: usize, file: &[u8], at: u32) ->
 {
     let destination = readers::destination_at(file, at as usize + 1);
     ((destinations_of(kind) == 0) | destination_found(d, destination))
-        & sources_found(kind, d, words, file, at)
+        & all_sources(kind, file, at, |s| source_found(d, words, s))
 }
 
 // The same, and MEM for a memory kind.
+#[tactic(auto, unfolding(registers::specs::Found::operands_found))]
 pub fn operands_found(kind: u8, d: Declared, words: usize, file: &[u8], at: u32) -> bool
     ensures { result ≡ operands_found kind (is_in d) words file.now at }
 {

@@ -1,83 +1,55 @@
 -- Bits of a word and of words: a range of them that is set, a search over them, and that a word without bits is 0.
 -- Assumes nothing.
 use mathlib.Core.Path.{◌≡◌, refl, sym, ap, ◌∙◌}
-use mathlib.Core.Bool.{Bool, true, false, not, ◌||◌, ◌&&◌}
+use mathlib.Core.Bool.{Bool, true, false, ◌||◌, ◌&&◌}
 use mathlib.Core.Logic.{⊎_elim}
 use mathlib.Core.List.{List}
 use Prim.Native.Nat.{ℕ, zero, suc, ◌+◌, ◌-◌, ◌*◌, ◌/◌, ◌%◌, ◌^◌, ◌<◌, ◌≤◌}
 use native.Mathlib.Omega.{arith}
 use native.Mathlib.Numerals.{add-one}
-use native.Mathlib.Nat.{zero-add, add-zero, pow-suc, eq-or-lt_of_le, zero-div, add-suc, suc-add}
-use lib.Dec.{eqb, leb, ltb}
+use native.Mathlib.Nat.{zero-add, add-zero, mul-zero, pow-suc, zero-div, add-suc, suc-add}
+use lib.Dec.{leb, ltb}
 use lib.Pow.{high}
 use lib.ListN.{length, get_or}
-use borrow.Author.Tests.{eq-eqb, ne_eqb, eqb-true, eqb-false, le-leb, lt-leb, le-ltb, lt-ltb}
+use borrow.Author.Tests.{eqb-false}
 use Rattle.words.specs.Word.{is_set, bit_in}
-use Rattle.words.proofs.Choices.{or_comm}
-use Rattle.registers.specs.Sets.{any_of, with_all}
-use Rattle.registers.specs.Inner.Bits.{with_one}
-use Rattle.registers.proofs.Choices.{le_or_lt, or_false, and_false}
-
--- ---- A range of bits more, one after the other
-
-one_more : (first i j : ℕ) → first ≤ i → (eqb j i || leb first j && ltb j i) ≡ (leb first j && ltb j (i + 1))
-one_more first i j h =
-    ⊎_elim
-    (λ l. ⊎_elim
-    (λ e. rw (e, eq-eqb i i refl, le-leb first i h, lt-ltb i (i + 1) (omega arith)))
-    (λ l. rw (ne_eqb j i (λ q. omega arith), lt-ltb j i l, lt-ltb j (i + 1) (omega arith)))
-    (eq-or-lt_of_le l))
-    (λ l. rw (ne_eqb j i (λ q. omega arith), le-ltb j i (omega arith), le-ltb j (i + 1) (omega arith)))
-    (le_or_lt j i)
-
-joined : (a b c : Bool) → (a || (b || c)) ≡ ((a || b) || c)
-joined true b c = refl
-joined false b c = refl
-
-no_range : (first i : ℕ) → (leb first i && ltb i first) ≡ false
-no_range first i = ⊎_elim (λ l. rw (le-ltb i first l) (and_false (leb first i))) (λ l. rw (lt-leb first i l)) (le_or_lt first i)
+use Rattle.registers.specs.Sets.{any_of}
+use Rattle.std.specs.List.{AllWithin, HoldsAt, range_with_len}
+use Rattle.std.specs.Bool.{MatchBool}
+use Rattle.std.proofs.lemmas.List.FromFn.{get_or-range_with_len, length-range_with_len}
+use Rattle.registers.proofs.Choices.{le_or_lt, or_false, or_true}
 
 -- The bits with those from first on, below end, more.
 abbrev pub below : (ℕ → Bool) → ℕ → ℕ → ℕ → Bool
 below p first end j = leb first j && ltb j end || p j
 
-module _ (p : ℕ → Bool) (first : ℕ) where
-  pub none_yet : p ≡ below p first first
-  none_yet t j = sym (ap (λ (x : Bool). x || p j) (no_range first j)) t
-
-  pub more_below : (i : ℕ) (q r : ℕ → Bool) → first ≤ i → q ≡ below p first i → r ≡ with_one q i → r ≡ below p first (i + 1)
-  more_below i q r h e s =
-      s ∙ (λ t j. (ap (λ (x : Bool). eqb j i || x) (ap (λ (f : ℕ → Bool). f j) e)
-      ∙ joined (eqb j i) (leb first j && ltb j i) (p j)
-      ∙ ap (λ (x : Bool). x || p j) (one_more first i j h)) t)
-
-  to_leb : (j last : ℕ) → ltb j (last + 1) ≡ leb j last
-  to_leb j last = ⊎_elim (λ l. rw (le-leb j last l, lt-ltb j (last + 1) (omega arith))) (λ l. rw (lt-leb j last l, le-ltb j (last + 1) (omega arith))) (le_or_lt j last)
-
-  pub all_below : (i last : ℕ) (q : ℕ → Bool) → i ≤ last + 1 → last < i → q ≡ below p first i → q ≡ with_all p first last
-  all_below i last q h l e =
-      let s : i ≡ last + 1 = omega arith in
-      e ∙ ap (below p first) s ∙ (λ t j. ap (λ (x : Bool). leb first j && x || p j) (to_leb j last) t)
-
 -- ---- A search
 
+joined : (a b c : Bool) → (a || (b || c)) ≡ ((a || b) || c)
+joined true b c = refl
+joined false b c = refl
+
 module _ (p : ℕ → Bool) where
-  any_step : (i last : ℕ) → i ≤ last → any_of p i (last + 1 - i) ≡ (p i || any_of p (i + 1) (last + 1 - (i + 1)))
-  any_step i last h =
-      let e : last + 1 - i ≡ suc (last + 1 - (i + 1)) = omega arith in
-      rw (e, add-one i)
+  any_at : (n first k : ℕ) → k < n → p (first + k) ≡ true → any_of p first n ≡ true
+  any_at zero first k h e = absurd (omega arith)
+  any_at (suc n) first zero h e = rw (rw add-zero at e)
+  any_at (suc n) first (suc k) h e = rw (any_at n (suc first) k (omega arith) (rw (suc-add, ← add-suc) e)) (or_true (p first))
 
-  module _ (w : Bool) (i last : ℕ) (whole : w ≡ any_of p i (last + 1 - i)) where
-    pub any_found : (x : Bool) → i ≤ last → x ≡ p i → x ≡ true → true ≡ w
-    any_found x h e t = sym (whole ∙ any_step i last h ∙ rw (sym e ∙ t))
+  none_of : (n first : ℕ) → ((k : ℕ) → k < n → p (first + k) ≡ false) → any_of p first n ≡ false
+  none_of zero first each = refl
+  none_of (suc n) first each =
+      let here : p first ≡ false = rw add-zero at (each 0 (omega arith)) in
+      rw (here, none_of n (suc first) (λ k h. rw (suc-add, ← add-suc) (each (suc k) (omega arith))))
 
-    pub any_on : (x : Bool) → i ≤ last → x ≡ p i → x ≡ false → w ≡ any_of p (i + 1) (last + 1 - (i + 1))
-    any_on x h e t = whole ∙ any_step i last h ∙ rw (sym e ∙ t)
-
-    pub any_end : last < i → false ≡ w
-    any_end h =
-        let e : last + 1 - i ≡ 0 = omega arith in
-        sym (whole ∙ rw e)
+  -- By the numbers from first on, n of them, as an iterator's `any` says it.
+  pub any_by : (first n : ℕ) (r : Bool)
+      → MatchBool r ((k : ℕ) × (k < length (range_with_len first n)) × HoldsAt (λ i. p i ≡ true) (range_with_len first n) k)
+      (AllWithin (λ i. p i ≡ false) (range_with_len first n) 0 (length (range_with_len first n)))
+      → r ≡ any_of p first n
+  any_by first n true (k, h, found) =
+      let l : k < n = omega (arith, length-range_with_len first n) in
+      sym (any_at n first k l (rw get_or-range_with_len at (found 0)))
+  any_by first n false each = sym (none_of n first (λ k h. rw get_or-range_with_len at (each k 0 (omega arith) (omega (arith, length-range_with_len first n)))))
 
   any_append : (m n i : ℕ) → any_of p i (m + n) ≡ (any_of p i m || any_of p (i + m) n)
   any_append zero n i = rw (zero-add n, add-zero i)
@@ -110,43 +82,45 @@ some_bit : (n w : ℕ) → w < 2 ^ n → (w ≡ 0 → ⊥) → any_of (is_set w)
 some_bit zero w h z = absurd (z (omega arith))
 some_bit (suc n) w h z = ap (any_of (is_set w) 0) (sym (add-one n)) ∙ any_last (is_set w) n ∙ by (is_set w n) refl (some_bit n w) where
   by : (t : Bool) → is_set w n ≡ t → (w < 2 ^ n → (w ≡ 0 → ⊥) → any_of (is_set w) 0 n ≡ true) → (any_of (is_set w) 0 n || t) ≡ true
-  by true e f = or_comm (any_of (is_set w) 0 n) true
+  by true e f = or_true (any_of (is_set w) 0 n)
   by false e f = or_false (any_of (is_set w) 0 n) ∙ f (low_half w n h e) z
 
 no_bit : (n i : ℕ) → any_of (is_set 0) i n ≡ false
 no_bit zero i = refl
 no_bit (suc n) i = rw (zero-div (2 ^ i)) (no_bit n (suc i))
 
-pub not_zero : (w : ℕ) → w < 2 ^ 32 → not (eqb w 0) ≡ any_of (is_set w) 0 32
-not_zero w h = by (eqb w 0) refl where
-  by : (t : Bool) → eqb w 0 ≡ t → not t ≡ any_of (is_set w) 0 32
-  by true e = rw (eqb-true w 0 e) (sym (no_bit 32 0))
-  by false e = sym (some_bit 32 w h (eqb-false w 0 e))
-
-module _ (ws : List ℕ) (i : ℕ) where
-  word_bits : any_of (bit_in ws) (32 * i) 32 ≡ any_of (is_set (get_or ws i 0)) 0 32
+module _ (ws : List ℕ) where
+  word_bits : (i : ℕ) → any_of (bit_in ws) (32 * i) 32 ≡ any_of (is_set (get_or ws i 0)) 0 32
   unfolding bit_in
-  word_bits =
+  word_bits i =
       any_same (bit_in ws) (is_set (get_or ws i 0)) (32 * i) 0 32
       (λ k l. let a : (32 * i + k) / 32 ≡ i = omega arith in
       let b : (32 * i + k) % 32 ≡ 0 + k = omega arith in
       rw (a, b))
 
-  module _ (w : Bool) (whole : w ≡ any_of (bit_in ws) (32 * i) (32 * (length ws - i))) (h : i < length ws) where
-    by_word : w ≡ (any_of (is_set (get_or ws i 0)) 0 32 || any_of (bit_in ws) (32 * (i + 1)) (32 * (length ws - (i + 1))))
-    by_word =
-        let e : 32 * (length ws - i) ≡ 32 + 32 * (length ws - (i + 1)) = omega arith in
-        let f : 32 * i + 32 ≡ 32 * (i + 1) = omega arith in
-        whole ∙ ap (any_of (bit_in ws) (32 * i)) e ∙ any_append (bit_in ws) 32 (32 * (length ws - (i + 1))) (32 * i)
-        ∙ rw (word_bits, f)
+  -- The bits of n + 1 words from word i on are those of word i, and those of the n after it.
+  by_word : (i n : ℕ) → any_of (bit_in ws) (32 * i) (32 * suc n) ≡ (any_of (is_set (get_or ws i 0)) 0 32 || any_of (bit_in ws) (32 * suc i) (32 * n))
+  by_word i n =
+      let e : 32 * suc n ≡ 32 + 32 * n = omega arith in
+      let f : 32 * i + 32 ≡ 32 * suc i = omega arith in
+      ap (any_of (bit_in ws) (32 * i)) e ∙ any_append (bit_in ws) 32 (32 * n) (32 * i) ∙ rw (word_bits i, f)
 
-    pub some_found : (x : Bool) → x ≡ any_of (is_set (get_or ws i 0)) 0 32 → x ≡ true → true ≡ w
-    some_found x e t = sym (by_word ∙ rw (sym e ∙ t))
+  module _ (small : (i : ℕ) → get_or ws i 0 < 2 ^ 32) where
+    some_word : (n i k : ℕ) → k < n → (get_or ws (i + k) 0 ≡ 0 → ⊥) → any_of (bit_in ws) (32 * i) (32 * n) ≡ true
+    some_word zero i k h some = absurd (omega arith)
+    some_word (suc n) i zero h some = by_word i n ∙ rw (some_bit 32 (get_or ws i 0) (small i) (rw add-zero at some))
+    some_word (suc n) i (suc k) h some =
+        by_word i n ∙ rw (some_word n (suc i) k (omega arith) (rw (suc-add, ← add-suc) some)) (or_true (any_of (is_set (get_or ws i 0)) 0 32))
 
-    pub some_on : (x : Bool) → x ≡ any_of (is_set (get_or ws i 0)) 0 32 → x ≡ false → w ≡ any_of (bit_in ws) (32 * (i + 1)) (32 * (length ws - (i + 1)))
-    some_on x e t = by_word ∙ rw (sym e ∙ t)
+    no_word : (n i : ℕ) → ((k : ℕ) → k < n → get_or ws (i + k) 0 ≡ 0) → any_of (bit_in ws) (32 * i) (32 * n) ≡ false
+    no_word zero i each = ap (any_of (bit_in ws) (32 * i)) (mul-zero 32)
+    no_word (suc n) i each =
+        let here : get_or ws i 0 ≡ 0 = rw add-zero at (each 0 (omega arith)) in
+        by_word i n ∙ rw (here, no_bit 32 0, no_word n (suc i) (λ k h. rw (suc-add, ← add-suc) (each (suc k) (omega arith))))
 
-  pub some_end : (w : Bool) → length ws ≤ i → w ≡ any_of (bit_in ws) (32 * i) (32 * (length ws - i)) → false ≡ w
-  some_end w h whole =
-      let e : 32 * (length ws - i) ≡ 0 = omega arith in
-      sym (whole ∙ rw e)
+    -- Some bit is set where some word is not 0.
+    pub any_word : (r : Bool)
+        → MatchBool r ((k : ℕ) × (k < length ws) × HoldsAt (λ w. w ≡ 0 → ⊥) ws k) (AllWithin (λ w. w ≡ 0) ws 0 (length ws))
+        → r ≡ any_of (bit_in ws) 0 (32 * length ws)
+    any_word true (k, h, some) = sym (rw mul-zero at (some_word (length ws) 0 k h (rw (zero-add k) (some 0))))
+    any_word false each = sym (rw mul-zero at (no_word (length ws) 0 (λ k h. rw (zero-add k) (each k 0 (omega arith) h))))

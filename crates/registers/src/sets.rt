@@ -1,9 +1,9 @@
 // Which registers of each file are declared, one bit each, in a struct of word arrays that goes by value; and declarations,
 // which name registers of a file.
 ghost use Rattle.std.specs.Prelude.{◌≡◌, cond, ◌<◌, ◌≤◌, ◌+◌, ◌-◌, ◌*◌, length};
-ghost use Rattle.words.specs.Word.{is_set, bit_in};
+ghost use Rattle.words.specs.Word.{bit_in};
 ghost use Rattle.format.specs.Files.{registers_of};
-ghost use Rattle.registers.specs.Sets.{is_in, none, with_all, with_range, any_of};
+ghost use Rattle.registers.specs.Sets.{is_in, none, with_all, with_range, any_of, words_of};
 ghost use Rattle.registers.specs.Inner.Bits.{with_one};
 ghost use Rattle.registers.specs.Rules.{declaration_rule};
 ghost use Rattle.registers.specs.Found.{overlaps};
@@ -40,36 +40,14 @@ pub fn empty() -> Declared
 fn has_any(words: &[u32], first: u16, last: u16) -> bool
     ensures { result ≡ any_of (bit_in words.now) first (last + 1 - first) }
 {
-    let end = last as usize;
-    let mut i = first as usize;
-    while i <= end {
-        if bit_in(words, i) {
-            return true;
-        }
-        i += 1;
-    }
-    false
-}
-
-// Whether a word has a bit set.
-fn has_bits(word: u32) -> bool
-    ensures { result ≡ any_of (is_set word) 0 32 }
-{
-    word != 0
+    (first as usize..last as usize + 1).any(|i| bit_in(words, i))
 }
 
 // Whether any bit is set at all.
 fn has_some(words: &[u32]) -> bool
     ensures { result ≡ any_of (bit_in words.now) 0 (32 * length words.now) }
 {
-    let mut i = 0;
-    while i < words.len() {
-        if has_bits(words[i]) {
-            return true;
-        }
-        i += 1;
-    }
-    false
+    words.iter().any(|word| *word != 0)
 }
 
 // Sets bit i.
@@ -77,8 +55,7 @@ fn set_bit(words: &mut [u32], i: usize)
     requires { i < 32 * length words.old }
     ensures { bit_in words.new ≡ with_one (bit_in words.old) i }
 {
-    let w = i / 32;
-    words[w] = words[w] | (1u32 << (i % 32) as u32);
+    words[i / 32] |= 1u32 << (i % 32) as u32;
 }
 
 // Sets the bits from first to last.
@@ -86,45 +63,51 @@ fn set_bits(words: &mut [u32], first: u16, last: u16)
     requires { (first ≤ last) × (last < 32 * length words.old) }
     ensures { bit_in words.new ≡ with_all (bit_in words.old) first last }
 {
-    let end = last as usize;
-    let mut i = first as usize;
-    while i <= end {
+    for i in first as usize..last as usize + 1 {
         set_bit(words, i);
-        i += 1;
+    }
+}
+
+impl Declared {
+    // The words of a file; no words where its registers are not declared.
+    fn words_of(&self, file: u8) -> &[u32]
+        ensures { result.now ≡ words_of self.now file }
+    {
+        match file {
+            CONST => &self.consts,
+            IN => &self.ins,
+            OUT => &self.outs,
+            TEMP => &self.temps,
+            ADDR => &self.addr,
+            MEM => &self.mem,
+            _ => &[],
+        }
     }
 }
 
 // Whether a register is declared.
+#[tactic(auto, unfolding(crate::specs::Sets::is_in))]
 pub fn is_declared(d: Declared, file: u8, index: usize) -> bool
     ensures { result ≡ is_in d file index }
 {
-    match file {
-        CONST => bit_in(&d.consts, index),
-        IN => bit_in(&d.ins, index),
-        OUT => bit_in(&d.outs, index),
-        TEMP => bit_in(&d.temps, index),
-        ADDR => bit_in(&d.addr, index),
-        MEM => bit_in(&d.mem, index),
-        _ => false,
-    }
+    bit_in(d.words_of(file), index)
 }
 
 // Whether some register of a file is declared.
+#[tactic(auto, unfolding(crate::specs::Sets::is_in), using(crate::proofs::Files::some_declared))]
 pub fn is_file_declared(d: Declared, file: u8) -> bool
     ensures { result ≡ any_of (is_in d file) 0 (registers_of file) }
 {
+    let words = d.words_of(file);
     match file {
-        CONST => has_some(&d.consts),
-        IN => has_some(&d.ins),
-        OUT => has_some(&d.outs),
-        TEMP => has_some(&d.temps),
-        ADDR => bit_in(&d.addr, 0),
-        MEM => bit_in(&d.mem, 0),
-        _ => false,
+        // A file of one register has the first bit of its word.
+        ADDR | MEM => bit_in(words, 0),
+        _ => has_some(words),
     }
 }
 
 // Whether a declaration names registers that its file has.
+#[tactic(auto, unfolding(crate::specs::Rules::declaration_rule))]
 pub fn declaration_allowed(d: Declaration) -> bool
     ensures { result ≡ declaration_rule d }
 {
@@ -135,71 +118,34 @@ pub fn declaration_allowed(d: Declaration) -> bool
 }
 
 // Whether a declaration names a register that is declared.
+#[tactic(auto, unfolding(crate::specs::Sets::is_in))]
 pub fn overlaps(d: Declared, more: Declaration) -> bool
     ensures { result ≡ overlaps (is_in d) more }
 {
-    let first = more.first;
-    let last = more.last;
-    let file = more.file;
-    match file {
-        CONST => has_any(&d.consts, first, last),
-        IN => has_any(&d.ins, first, last),
-        OUT => has_any(&d.outs, first, last),
-        TEMP => has_any(&d.temps, first, last),
-        ADDR => has_any(&d.addr, first, last),
-        MEM => has_any(&d.mem, first, last),
-        _ => false,
-    }
+    has_any(d.words_of(more.file), more.first, more.last)
 }
 
 // The set with the registers of a file from first to last more.
+#[tactic(auto, unfolding(crate::specs::Sets::is_in))]
 fn with_range(d: Declared, file: u8, first: u16, last: u16) -> Declared
     requires { (first ≤ last) × (last < registers_of file) }
     ensures { is_in result ≡ with_range (is_in d) file first last }
 {
-    let mut e = d;
+    let mut set = d;
     match file {
-        CONST => {
-            let mut words = d.consts;
-            set_bits(&mut words, first, last);
-            e.consts = words;
-            e
-        }
-        IN => {
-            let mut words = d.ins;
-            set_bits(&mut words, first, last);
-            e.ins = words;
-            e
-        }
-        OUT => {
-            let mut words = d.outs;
-            set_bits(&mut words, first, last);
-            e.outs = words;
-            e
-        }
-        TEMP => {
-            let mut words = d.temps;
-            set_bits(&mut words, first, last);
-            e.temps = words;
-            e
-        }
-        ADDR => {
-            let mut words = d.addr;
-            set_bits(&mut words, first, last);
-            e.addr = words;
-            e
-        }
-        MEM => {
-            let mut words = d.mem;
-            set_bits(&mut words, first, last);
-            e.mem = words;
-            e
-        }
-        _ => e,
+        CONST => set_bits(&mut set.consts, first, last),
+        IN => set_bits(&mut set.ins, first, last),
+        OUT => set_bits(&mut set.outs, first, last),
+        TEMP => set_bits(&mut set.temps, first, last),
+        ADDR => set_bits(&mut set.addr, first, last),
+        MEM => set_bits(&mut set.mem, first, last),
+        _ => {}
     }
+    set
 }
 
 // The set with the registers more that a declaration names; where the declaration breaks its rule, the set as it is.
+#[tactic(auto, unfolding(crate::specs::Rules::declaration_rule))]
 pub fn declare(d: Declared, more: Declaration) -> Declared
     ensures { is_in result ≡ cond (declaration_rule more) (with_range (is_in d) more.file more.first more.last) (is_in d) }
 {
