@@ -5,12 +5,7 @@ use mathlib.Core.Bool.{Bool, true, false, cond, false≢true}
 use Prim.Native.Nat.{ℕ}
 use lib.Dec.{eqb}
 use borrow.Author.Tests.{eqb-true, eqb-false, ne_eqb}
-use Rattle.blocks.specs.Control.{Op, PLAIN, ELSE, ENDIF, BGNLOOP, ENDLOOP, BRK, CONT, DEFAULT, ENDSWITCH, END, UIF, SWITCH, CASE, kind_of, is, is_label, closes, op_of}
-use Rattle.blocks.specs.Nesting.{opens}
-
--- What a kind that a test found gives.
-pub kind_at : {A : Type 0} (f : Op → A) (n k : ℕ) → k ≡ n → f (op_of n) ≡ f (op_of k)
-kind_at f n k e = rw e
+use Rattle.blocks.specs.Control.{Op, PLAIN, ELSE, ENDIF, BGNLOOP, ENDLOOP, BRK, CONT, DEFAULT, ENDSWITCH, END, UIF, SWITCH, CASE, kind_of, is, op_of}
 
 or_else : (P : Op → Type 0) (k n : ℕ) (o p : Op) → (k ≡ n → P o) → ((k ≡ n → ⊥) → P p) → P (cond (eqb k n) o p)
 or_else P k n o p found other = on (eqb k n) refl
@@ -72,25 +67,3 @@ module _ (o : Op) (k : ℕ) (control : is PLAIN o ≡ false) where
 
   pub not_kind : (k ≡ kind_of o → ⊥) → is o (op_of k) ≡ false
   not_kind other = is_kind ∙ ne_eqb (kind_of o) k (λ e. other (sym e))
-
-pub not_last : (k : ℕ)
-    → (k ≡ 0x81 → ⊥)
-    → (k ≡ 0x82 → ⊥)
-    → (k ≡ 0x84 → ⊥)
-    → (k ≡ 0x88 → ⊥)
-    → (k ≡ 0x89 → ⊥)
-    → false ≡ closes (op_of k)
-not_last k a b d h i =
-    rw (
-      not_kind ELSE k refl a,
-      not_kind ENDIF k refl b,
-      not_kind ENDLOOP k refl d,
-      not_kind ENDSWITCH k refl h,
-      not_kind END k refl i,
-    )
-
-pub not_opening : (k : ℕ) → (k ≡ 0x83 → ⊥) → (k ≡ 0x90 → ⊥) → (k ≡ 0x91 → ⊥) → false ≡ opens (op_of k)
-not_opening k c j l = rw (not_kind BGNLOOP k refl c, not_kind UIF k refl j, not_kind SWITCH k refl l)
-
-pub not_label : (k : ℕ) → (k ≡ 0x87 → ⊥) → (k ≡ 0x92 → ⊥) → false ≡ is_label (op_of k)
-not_label k g m = rw (not_kind DEFAULT k refl g, not_kind CASE k refl m)

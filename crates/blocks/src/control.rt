@@ -1,4 +1,6 @@
 // The control instructions by their kinds: which ones end a list, open a block, or are labels.
+#![tactic(auto, unfolding(crate::specs::Control::op_of))]
+
 ghost use Rattle.std.specs.Prelude.{◌≡◌};
 ghost use Rattle.blocks.specs.Control.{closes, is_label, op_of};
 ghost use Rattle.blocks.specs.Nesting.{opens};
@@ -32,35 +34,19 @@ pub const CASE: u8 = 0x92;
 pub fn is_last(kind: u8) -> bool
     ensures { result ≡ closes (op_of kind) }
 {
-    match kind {
-        ELSE => true,
-        ENDIF => true,
-        ENDLOOP => true,
-        ENDSWITCH => true,
-        END => true,
-        _ => false,
-    }
+    matches!(kind, ELSE | ENDIF | ENDLOOP | ENDSWITCH | END)
 }
 
 // Whether a kind opens a block: BGNLOOP, UIF, SWITCH.
 pub fn is_opening(kind: u8) -> bool
     ensures { result ≡ opens (op_of kind) }
 {
-    match kind {
-        BGNLOOP => true,
-        UIF => true,
-        SWITCH => true,
-        _ => false,
-    }
+    matches!(kind, BGNLOOP | UIF | SWITCH)
 }
 
 // Whether a kind is a label: DEFAULT, CASE.
 pub fn is_label(kind: u8) -> bool
     ensures { result ≡ is_label (op_of kind) }
 {
-    match kind {
-        DEFAULT => true,
-        CASE => true,
-        _ => false,
-    }
+    matches!(kind, DEFAULT | CASE)
 }

@@ -1,6 +1,6 @@
 // What a table's rows are made of, by the kinds of a program's instructions: the jump and the label of each, and where the
 // instructions in a block's lists go.
-#![tactic(auto)]
+#![tactic(auto, unfolding(blocks::specs::Control::op_of))]
 
 ghost use Rattle.std.specs.Prelude.{◌≡◌, cond, ◌+◌};
 ghost use Rattle.blocks.specs.Control.{is_label, op_of};
@@ -40,43 +40,31 @@ pub fn inside(kind: u8, first: usize, end: usize, targets: Targets) -> Targets
         BGNLOOP => body_targets(end, first),
         SWITCH => body_targets(end, targets.cont),
         _ => Targets {
-            brk: targets.brk,
-            cont: targets.cont,
             after: end,
+            ..targets
         },
     }
 }
 
 // The block that instruction n opens; where it opens none, one that ends where it starts.
+#[tactic(auto, using(crate::proofs::Blocks::opened))]
 pub fn block_at(kinds: &[u8], n: usize) -> Opened
     ensures { result ≡ opened_by (op_in kinds.now) n (block_in kinds.now n) }
 {
     let end = past_block(kinds, n);
-    if n < kinds.len() {
-        let kind = kinds[n];
-        if kind == UIF {
+    let (second, jump, label) = match kinds.get(n) {
+        Some(&UIF) => {
             let second = past(kinds, n + 1);
-            return Opened {
-                end,
-                second,
-                jump: second,
-                label: 0,
-            };
+            (second, second, 0)
         }
-        if kind == SWITCH {
-            return Opened {
-                end,
-                second: end,
-                jump: end,
-                label: next_label(kinds, n + 1),
-            };
-        }
-    }
+        Some(&SWITCH) => (end, end, next_label(kinds, n + 1)),
+        _ => (end, 0, 0),
+    };
     Opened {
         end,
-        second: end,
-        jump: 0,
-        label: 0,
+        second,
+        jump,
+        label,
     }
 }
 
@@ -86,9 +74,8 @@ pub fn jump_of(kind: u8, targets: Targets) -> usize
 {
     match kind {
         ELSE => targets.after,
-        ENDLOOP => targets.cont,
+        ENDLOOP | CONT => targets.cont,
         BRK => targets.brk,
-        CONT => targets.cont,
         _ => 0,
     }
 }
@@ -97,11 +84,8 @@ pub fn jump_of(kind: u8, targets: Targets) -> usize
 pub fn label_of(kinds: &[u8], n: usize) -> usize
     ensures { result ≡ cond (is_label (op_in kinds.now n)) (first_label (op_in kinds.now) (list_in kinds.now (n + 1))) 0 }
 {
-    if kinds.len() <= n {
-        return 0;
+    match kinds.get(n) {
+        Some(&kind) if is_label(kind) => next_label(kinds, n + 1),
+        _ => 0,
     }
-    if is_label(kinds[n]) {
-        return next_label(kinds, n + 1);
-    }
-    0
 }

@@ -19,7 +19,7 @@ use Rattle.blocks.proofs.Agree.{length_rows}
 use Rattle.blocks.proofs.Correct.{rows_count}
 use Rattle.table.specs.Prepared.{op_from, table_words, filled}
 use Rattle.lists.specs.Lists.{op_in, list_in}
-use Rattle.table.specs.Inner.Rows.{words_in, Located, Room}
+use Rattle.table.specs.Inner.Rows.{words_in, Located}
 use Rattle.lists.proofs.Laid.{list_fits}
 use Rattle.table.proofs.Same.{table_same, words_same}
 use Rattle.table.proofs.Words.{length_words, words_place, words_row, get_or_stored}
@@ -66,9 +66,6 @@ module _ (file : List ℕ) (start count : ℕ) (work : List ℕ) where
 
           pub places_part : count ≡ length (take count places)
           places_part = sym places_held
-
-          pub fill_room : row_words * count ≤ length work → Room (take count kinds) (take count places) work
-          fill_room h = record { few = rw kinds_held few; located = rw (places_held, kinds_held); room = rw kinds_held h }
 
           words : words_in (take count kinds) (take count places) nowhere 0 (list_in (take count kinds) 0) ≡ table_words file start count
           unfolding words_in table_words table

@@ -19,27 +19,26 @@ use Rattle.blocks.proofs.Agree.{length_rows}
 use Rattle.lists.specs.Lists.{block_of, op_in, list_in, block_in}
 use Rattle.rows.specs.Opened.{past_first, first_row, opened_by, inside_of}
 use Rattle.rows.specs.declared.Opened.{Opened}
-use Rattle.table.specs.Inner.Rows.{words_in, single_in, Room, Near, Opening}
+use Rattle.table.specs.Inner.Rows.{words_in, Near}
 use Rattle.lists.proofs.Laid.{Laid, list_laid, laid_label}
-use Rattle.lists.proofs.Readers.{list_within, past_end, at_none, at_last, at_plain, at_opening, at_loop, at_switch, at_uif}
+use Rattle.lists.proofs.Readers.{list_within, past_end, at_none, at_last, at_plain, at_opening, at_loop, at_switch, at_uif, block_some}
 use Rattle.lists.proofs.Tests.{uif_kind, loop_kind, switch_kind, opening_kind, last_no_label}
 use Rattle.table.proofs.Words.{rows_then}
 
 -- ---- Numbers that fit a row
 
-module _ (kinds places work : List ℕ) (room : Room kinds places work) where
-  pub label_near : (t : Bool) (n l : ℕ) → l ≡ cond t (first_label (op_in kinds) (list_in kinds n)) 0 → l ≤ most_instructions
-  label_near true n l d =
-      omega (arith, laid_label (op_in kinds) (length kinds) (list_in kinds n) n (list_laid (op_in kinds) (length kinds) n), room.few)
-  label_near false n l d = omega arith
+module _ (kinds : List ℕ) (few : length kinds ≤ most_instructions) where
+  pub label_within : (n : ℕ) → first_label (op_in kinds) (list_in kinds n) ≤ most_instructions
+  label_within n =
+      omega (arith, laid_label (op_in kinds) (length kinds) (list_in kinds n) n (list_laid (op_in kinds) (length kinds) n), few)
 
   pub next_near : (n : ℕ) → n < length kinds → n + 1 ≤ most_instructions
-  next_near n h = omega (arith, room.few)
+  next_near n h = omega (arith, few)
 
   -- The block that instruction n opens.
   module _ (n : ℕ) (o : Opened) (h : n < length kinds) (found : o ≡ opened_by (op_in kinds) n (block_in kinds n)) where
     block_near : n + size (block_in kinds n) ≤ most_instructions
-    block_near = omega (arith, list_within kinds n (omega arith), block_most (list_in kinds n), room.few)
+    block_near = omega (arith, list_within kinds n (omega arith), block_most (list_in kinds n), few)
       where
         block_most : (l : Items) → size (block_of l) ≤ size l
         block_most nil = omega arith
@@ -62,7 +61,7 @@ module _ (kinds places work : List ℕ) (room : Room kinds places work) where
         within (switch m l rest) = omega arith
 
     pub opening_label_near : o.label ≤ most_instructions
-    opening_label_near = rw found (omega (arith, within (list_in kinds n) (list_laid (op_in kinds) (length kinds) n), room.few))
+    opening_label_near = rw found (omega (arith, within (list_in kinds n) (list_laid (op_in kinds) (length kinds) n), few))
       where
         within : (l : Items) → Laid (length kinds) l n → (first_row (op_in kinds) n (block_of l)).label ≤ length kinds
         within nil w = omega arith
@@ -104,20 +103,20 @@ inside_near t u k first end near e hf he = rw e (by (op_of k))
     by END = part
     by CASE = part
 
-pub jump_near : (t : Targets) → Near t → (o : Op) (j : ℕ) → j ≡ jump_of o t → j ≤ most_instructions
-jump_near t near ELSE j d = omega (arith, near.after)
-jump_near t near ENDLOOP j d = omega (arith, near.cont)
-jump_near t near CONT j d = omega (arith, near.cont)
-jump_near t near BRK j d = omega (arith, near.brk)
-jump_near t near CASE j d = omega arith
-jump_near t near DEFAULT j d = omega arith
-jump_near t near PLAIN j d = omega arith
-jump_near t near ENDIF j d = omega arith
-jump_near t near BGNLOOP j d = omega arith
-jump_near t near ENDSWITCH j d = omega arith
-jump_near t near END j d = omega arith
-jump_near t near UIF j d = omega arith
-jump_near t near SWITCH j d = omega arith
+pub jump_near : (o : Op) (t : Targets) → Near t → jump_of o t ≤ most_instructions
+jump_near ELSE t near = near.after
+jump_near ENDLOOP t near = near.cont
+jump_near CONT t near = near.cont
+jump_near BRK t near = near.brk
+jump_near CASE t near = omega arith
+jump_near DEFAULT t near = omega arith
+jump_near PLAIN t near = omega arith
+jump_near ENDIF t near = omega arith
+jump_near BGNLOOP t near = omega arith
+jump_near ENDSWITCH t near = omega arith
+jump_near END t near = omega arith
+jump_near UIF t near = omega arith
+jump_near SWITCH t near = omega arith
 
 -- ---- Rows one after the other
 
@@ -128,50 +127,18 @@ empty (uif n p q rest) h = absurd (omega arith)
 empty (loop n l rest) h = absurd (omega arith)
 empty (switch n l rest) h = absurd (omega arith)
 
-pub room_kept : (kinds places w w1 vs : List ℕ) (i : ℕ) → Room kinds places w → w1 ≡ sets w i vs → Room kinds places w1
-room_kept kinds places w w1 vs i h e = record {
-  few = h.few;
-  located = h.located;
-  room = rw (e, length-sets w i vs) h.room;
-}
-
-pub length_kept : (w w1 vs : List ℕ) (i n : ℕ) → length w ≡ n → w1 ≡ sets w i vs → length w1 ≡ n
-length_kept w w1 vs i n h e = rw (e, length-sets w i vs) h
-
-pub opens_block : (kinds : List ℕ) (n : ℕ) (t : Bool) → n < length kinds → t ≡ opens (op_of (get_or kinds n 0)) → t ≡ true → Opening kinds n
-opens_block kinds n t h e k = record { there = h; opening = sym e ∙ k }
-
-pub end_found : (kinds : List ℕ) (n : ℕ) (o : Opened) → o ≡ opened_by (op_in kinds) n (block_in kinds n) → o.end ≡ n + size (block_in kinds n)
-end_found kinds n o found = rw found
-
--- There is a second part only where the instruction opens a block.
-second_opens : (kinds : List ℕ) (n : ℕ) (o : Opened) → o ≡ opened_by (op_in kinds) n (block_in kinds n) → o.second < o.end → Opening kinds n
-second_opens kinds n o found lt = on (dec_lt n (length kinds))
+-- An instruction opens a block: what was found of it.
+module _ (kinds : List ℕ) (n : ℕ) (o : Opened) (there : n < length kinds) (opening : opens (op_in kinds n) ≡ true)
+    (found : o ≡ opened_by (op_in kinds) n (block_in kinds n))
   where
-    none : block_in kinds n ≡ nil → ⊥
-    none b =
-        let same : o.second ≡ o.end = rw (found, b) (omega arith) in
-        omega (arith, same)
+    pub end_found : o.end ≡ n + size (block_in kinds n)
+    end_found = rw found
 
-    by : n < length kinds → (v : Bool) → opens (op_in kinds n) ≡ v → Opening kinds n
-    by h true e = record { there = h; opening = e }
-    by h false e = absurd (none (at_none kinds n h (opens (op_in kinds n)) refl e))
-
-    on : Dec (n < length kinds) → Opening kinds n
-    on (yes h) = by h (opens (op_in kinds n)) refl
-    on (no h) = absurd (none (rw (past_end kinds n (omega (arith, h)))))
-
--- A second part starts after the instruction.
-pub second_falls : (kinds : List ℕ) (n m : ℕ) (o : Opened)
-    → 2 * (length kinds - n) ≡ m
-    → Opening kinds n
-    → o ≡ opened_by (op_in kinds) n (block_in kinds n)
-    → 2 * (length kinds - o.second) + 1 < m
-second_falls kinds n m o e opening found =
-    let h = opening.there in
-    let later : n < past_first n (block_in kinds n)
-    = at_opening kinds n h (λ l. n < past_first n (block_of l)) true (sym opening.opening) refl (λ q. omega arith) (omega arith) (omega arith) in
-    rw found (omega arith)
+    -- A second part starts after the instruction.
+    pub second_later : n < o.second
+    second_later =
+        rw found
+        (at_opening kinds n there (λ l. n < past_first n (block_of l)) opening (λ q. omega arith) (omega arith) (omega arith))
 
 module _ (kinds places : List ℕ) (t : Targets) where
   abbrev place : ℕ → ℕ
@@ -183,15 +150,13 @@ module _ (kinds places : List ℕ) (t : Targets) where
   -- The rows of a list that begins with a block.
   rows_split : (m : ℕ)
       → m < length kinds
-      → (a : Bool)
-      → a ≡ opens (op_of (get_or kinds m 0))
-      → a ≡ true
+      → opens (op m) ≡ true
       → rows op t (list_in kinds m) ≡ rows op t (block_in kinds m) ++ rows op t (list_in kinds (m + size (block_in kinds m)))
   unfolding rows
-  rows_split m h a f k =
+  rows_split m h k =
       let p : Items = list_in kinds (suc m) in
       let j : m + suc (size p + 0) ≡ suc m + size p = omega arith in
-      at_opening kinds m h (λ l. rows op t l ≡ rows op t (block_of l) ++ rows op t (list_in kinds (m + size (block_of l)))) a f k
+      at_opening kinds m h (λ l. rows op t l ≡ rows op t (block_of l) ++ rows op t (list_in kinds (m + size (block_of l)))) k
       (λ q.
       let i : m + suc (size p + (size q + 0)) ≡ suc m + size p + size q = omega arith in
       let u : Targets = in_uif (suc m + size p + size q) t in
@@ -199,52 +164,40 @@ module _ (kinds places : List ℕ) (t : Targets) where
       (rw (j, append-nil (rows op (in_loop (suc m) (suc m + size p)) p)))
       (rw (j, append-nil (rows op (in_switch (suc m + size p) t) p)))
 
-  -- `single`: the row of an instruction that opens no block.
-  pub single_row : (n j l : ℕ) (w w1 : List ℕ)
-      → j ≡ jump_of (op_of (get_or kinds n 0)) t
-      → l ≡ cond (is_label (op_of (get_or kinds n 0))) (first_label (op_in kinds) (list_in kinds (n + 1))) 0
-      → w1 ≡ sets w (row_words * n) (get_or places n 0 ∷ j ∷ l ∷ [])
-      → w1 ≡ sets w (row_words * n) (single_in kinds places t n)
-  unfolding single_in words_of
-  single_row n j l w w1 jump label wrote = wrote ∙ rw (jump, label)
-
-  -- `block`: what is left to write from instruction m on, over the words w, makes W.
-  module _ (m : ℕ) (w W : List ℕ) (left : sets w (row_words * m) (words_in kinds places t m (list_in kinds m)) ≡ W) where
-    pub block_stop : length kinds ≤ m → w ≡ W
+  -- The words of a list's rows, written from instruction n on over the words w.
+  module _ (n : ℕ) (w : List ℕ) where
+    pub words_end : length kinds ≤ n → sets w (row_words * n) (words_in kinds places t n (list_in kinds n)) ≡ w
     unfolding words_in words_of rows
-    block_stop h = rw (past_end kinds m h) at left
+    words_end h = rw (past_end kinds n h)
 
-    module _ (h : m < length kinds)
-        (w1 : List ℕ) (wrote : w1 ≡ sets w (row_words * m) (single_in kinds places t m))
-        (a : Bool) (d : a ≡ closes (op_of (get_or kinds m 0)))
-      where
-        pub block_last : a ≡ true → w1 ≡ W
-        unfolding words_in single_in words_of rows first_label
-        block_last k =
-            let no : is_label (op_in kinds m) ≡ false = last_no_label (op_in kinds m) (sym d ∙ k) in
-            wrote ∙ rw no (rw (at_last kinds m h a d k, no) at left)
+    module _ (h : n < length kinds) where
+      pub words_last : closes (op n) ≡ true
+          → sets w (row_words * n) (words_in kinds places t n (list_in kinds n))
+          ≡ sets w (row_words * n) (place n ∷ jump_of (op n) t ∷ cond (is_label (op n)) (first_label op (list_in kinds (n + 1))) 0 ∷ [])
+      unfolding words_in words_of rows first_label
+      words_last k = rw (at_last kinds n h k, last_no_label (op n) k)
 
-        pub block_plain : a ≡ false → (u : Bool) → u ≡ opens (op_of (get_or kinds m 0)) → u ≡ false
-            → sets w1 (row_words * (m + 1)) (words_in kinds places t (m + 1) (list_in kinds (m + 1))) ≡ W
-        unfolding words_in single_in rows
-        block_plain k u f o =
-            rows_then place m (m + 1) (row_of op (op m) t (list_in kinds (m + 1)) ∷ []) (rows op t (list_in kinds (m + 1))) w w1 _ wrote
-            (omega arith) refl
-            ∙ rw (add-one m) (rw (at_plain kinds m h a u d k f o) at left)
+      pub words_plain : closes (op n) ≡ false
+          → opens (op n) ≡ false
+          → sets w (row_words * n) (words_in kinds places t n (list_in kinds n))
+          ≡ sets
+            (sets w (row_words * n) (place n ∷ jump_of (op n) t ∷ cond (is_label (op n)) (first_label op (list_in kinds (n + 1))) 0 ∷ []))
+            (row_words * (n + 1)) (words_in kinds places t (n + 1) (list_in kinds (n + 1)))
+      unfolding words_in words_of rows
+      words_plain k l =
+          rw (add-one n, at_plain kinds n h k l)
+          (sym (rows_then place n (suc n) (row_of op (op n) t (list_in kinds (suc n)) ∷ []) (rows op t (list_in kinds (suc n))) w _ _ refl (omega arith) refl))
 
-    pub block_opening : m < length kinds
-        → (a : Bool)
-        → a ≡ opens (op_of (get_or kinds m 0))
-        → a ≡ true
-        → (r : ℕ) (w1 : List ℕ)
-        → r ≡ m + size (block_in kinds m)
-        → w1 ≡ sets w (row_words * m) (words_in kinds places t m (block_in kinds m))
-        → sets w1 (row_words * r) (words_in kinds places t r (list_in kinds r)) ≡ W
-    unfolding words_in
-    block_opening h a f k r w1 d wrote =
-        rows_then place m r (rows op t (block_in kinds m)) (rows op t (list_in kinds r)) w w1 _ wrote
-        (omega (arith, length_rows op t (block_in kinds m))) refl
-        ∙ rw (d, ← rows_split m h a f k) left
+      pub words_opening : opens (op n) ≡ true
+          → sets w (row_words * n) (words_in kinds places t n (list_in kinds n))
+          ≡ sets (sets w (row_words * n) (words_in kinds places t n (block_in kinds n)))
+            (row_words * (n + size (block_in kinds n)))
+            (words_in kinds places t (n + size (block_in kinds n)) (list_in kinds (n + size (block_in kinds n))))
+      unfolding words_in
+      words_opening k =
+          let r : ℕ = n + size (block_in kinds n) in
+          rw (rows_split n h k)
+          (sym (rows_then place n r (rows op t (block_in kinds n)) (rows op t (list_in kinds r)) w _ _ refl (omega (arith, length_rows op t (block_in kinds n))) refl))
 
   -- `opening`: the block that instruction n opens ends before number e, and over its first row its lists are written.
   module _ (n e : ℕ) (w w1 : List ℕ) (h : n < length kinds) (ends : e ≡ n + size (block_in kinds n)) where
@@ -328,21 +281,18 @@ module _ (kinds places : List ℕ) (t : Targets) where
 
   -- By the kind of the instruction, whose block was found.
   module _ (n : ℕ) (o : Opened) (w w1 : List ℕ)
-      (opening : Opening kinds n)
+      (h : n < length kinds)
+      (opening : opens (op n) ≡ true)
       (found : o ≡ opened_by (op_in kinds) n (block_in kinds n))
       (wrote : w1 ≡ sets w (row_words * n) (get_or places n 0 ∷ o.jump ∷ o.label ∷ []))
       (u : Targets) (goes : u ≡ inside_of (op_of (get_or kinds n 0)) (n + 1) o.end t)
       (w2 : List ℕ) (inside : w2 ≡ sets w1 (row_words * (n + 1)) (words_in kinds places u (n + 1) (list_in kinds (n + 1))))
     where
-      h : n < length kinds
-      h = opening.there
-
       ends : o.end ≡ n + size (block_in kinds n)
       ends = rw found
 
       by_kinds : (A : Type 0) → (get_or kinds n 0 ≡ 0x83 → A) → (get_or kinds n 0 ≡ 0x90 → A) → (get_or kinds n 0 ≡ 0x91 → A) → A
-      by_kinds A l c s = opening_kind (get_or kinds n 0) opening.opening A l c s
-
+      by_kinds A l c s = opening_kind (get_or kinds n 0) opening A l c s
       -- What was found of a UIF.
       module _ (k : get_or kinds n 0 ≡ 0x90) where
         uif_second : o.second ≡ suc n + size (list_in kinds (suc n))
@@ -382,11 +332,11 @@ module _ (kinds places : List ℕ) (t : Targets) where
           let l : o.label ≡ first_label (op_in kinds) (list_in kinds (n + 1)) = rw (found, at_switch kinds n h k, add-one n) in
           open_switch_is n o.end w w1 h ends o.label l (rw j at wrote) u w2 inside k (rw (switch_kind (get_or kinds n 0) k) at goes))
 
-      opens_both : o.second < o.end
+      pub opens_twice : o.second < o.end
           → (w3 : List ℕ)
           → w3 ≡ sets w2 (row_words * o.second) (words_in kinds places u o.second (list_in kinds o.second))
           → w3 ≡ sets w (row_words * n) (words_in kinds places t n (block_in kinds n))
-      opens_both lt w3 more =
+      opens_twice lt w3 more =
           by_kinds (w3 ≡ sets w (row_words * n) (words_in kinds places t n (block_in kinds n)))
           (λ k. absurd (omega (arith, loop_once k)))
           (λ k.
@@ -394,14 +344,4 @@ module _ (kinds places : List ℕ) (t : Targets) where
           (rw (goes, uif_kind (get_or kinds n 0) k) at more))
           (λ k. absurd (omega (arith, switch_once k)))
 
-  -- The same for a block with a second part, which only a UIF opens.
-  pub opens_twice : (n : ℕ) (o : Opened) (w w1 : List ℕ)
-      → o ≡ opened_by (op_in kinds) n (block_in kinds n)
-      → w1 ≡ sets w (row_words * n) (get_or places n 0 ∷ o.jump ∷ o.label ∷ [])
-      → (u : Targets) → u ≡ inside_of (op_of (get_or kinds n 0)) (n + 1) o.end t
-      → (w2 : List ℕ) → w2 ≡ sets w1 (row_words * (n + 1)) (words_in kinds places u (n + 1) (list_in kinds (n + 1)))
-      → o.second < o.end
-      → (w3 : List ℕ) → w3 ≡ sets w2 (row_words * o.second) (words_in kinds places u o.second (list_in kinds o.second))
-      → w3 ≡ sets w (row_words * n) (words_in kinds places t n (block_in kinds n))
-  opens_twice n o w w1 found wrote u goes w2 inside lt w3 more =
-      opens_both n o w w1 (second_opens kinds n o found lt) found wrote u goes w2 inside lt w3 more
+pub ruleset written = (words_end, words_last, words_plain, words_opening, block_some, label_within, jump_near, length-sets)

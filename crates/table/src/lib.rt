@@ -2,7 +2,7 @@
 // `opening` the block that one of them opens.
 #![tactic(auto)]
 
-ghost use Rattle.std.specs.Prelude.{◌≡◌, ◌∷◌, [], ◌+◌, ◌*◌, ◌<◌, ◌≤◌, length, get_or};
+ghost use Rattle.std.specs.Prelude.{◌≡◌, true, ◌∷◌, [], ◌+◌, ◌*◌, ◌<◌, ◌≤◌, length, get_or};
 ghost use Rattle.std.proofs.lemmas.List.Edits.{sets};
 ghost use Rattle.format.specs.Records.{longest, next};
 ghost use Rattle.blocks.specs.Control.{op_of};
@@ -11,15 +11,15 @@ ghost use Rattle.blocks.specs.Run.{most_instructions};
 ghost use Rattle.blocks.specs.Table.{row_words};
 ghost use Rattle.table.specs.Prepared.{filled};
 ghost use Rattle.lists.specs.Lists.{op_in, list_in, block_in};
-ghost use Rattle.rows.specs.Opened.{opened_by, inside_of};
-ghost use Rattle.table.specs.Inner.Rows.{words_in, single_in, Located, Room, Near, Opening};
+ghost use Rattle.blocks.specs.Nesting.{opens};
+ghost use Rattle.table.specs.Inner.Rows.{words_in, Located, Near};
 
 use blocks::control::{is_last, is_opening};
 use blocks::{MOST_INSTRUCTIONS, ROW_WORDS, Targets};
 use format::records::LONGEST;
 use readers::byte_at;
 use records::size_at;
-use rows::{Opened, block_at, inside, jump_of, label_of};
+use rows::{block_at, inside, jump_of, label_of};
 
 // Writes row n.
 fn put_row(work: &mut [u32], n: usize, place: u32, jump: usize, label: usize)
@@ -32,86 +32,68 @@ fn put_row(work: &mut [u32], n: usize, place: u32, jump: usize, label: usize)
     work[at + 2] = label as u32;
 }
 
-// Writes the row of instruction n, which opens no block.
-fn single(kinds: &[u8], places: &[u32], work: &mut [u32], n: usize, targets: Targets)
-    requires room { Room kinds.now places.now work.old }
-    requires near { Near targets }
-    requires n_in_bounds { n < length kinds.now }
-    ensures { work.new ≡ sets work.old (row_words * n) (single_in kinds.now places.now targets n) }
-{
-    put_row(
-        work,
-        n,
-        places[n],
-        jump_of(kinds[n], targets),
-        label_of(kinds, n),
-    );
+// A program's instructions: the kind and the byte place of each.
+#[derive(Clone, Copy)]
+struct Program<'a> {
+    kinds: &'a [u8],
+    places: &'a [u32],
+    ghost few: { length kinds.now ≤ most_instructions },
+    ghost placed: { length places.now ≡ length kinds.now },
 }
 
-// Writes the row of instruction n, which opens a block. The block that it opens.
-fn first_row(kinds: &[u8], places: &[u32], work: &mut [u32], n: usize) -> Opened
-    requires room { Room kinds.now places.now work.old }
-    requires opening { Opening kinds.now n }
-    ensures found { result ≡ opened_by (op_in kinds.now) n (block_in kinds.now n) }
-    ensures row { work.new ≡ sets work.old (row_words * n) (get_or places.now n 0 ∷ result.jump ∷ result.label ∷ []) }
-{
-    let found = block_at(kinds, n);
-    put_row(work, n, places[n], found.jump, found.label);
-    found
-}
-
-// The targets in the lists of the block that instruction n opens and that ends before `end`.
-fn targets_in(kinds: &[u8], n: usize, end: usize, targets: Targets) -> Targets
-    requires near_2 { Near targets }
-    requires n_in_bounds { (n < length kinds.now) × (n + 1 ≤ most_instructions) × (end ≤ most_instructions) }
-    ensures is { result ≡ inside_of (op_of (get_or kinds.now n 0)) (n + 1) end targets }
-    ensures near { Near result }
-{
-    inside(kinds[n], n + 1, end, targets)
-}
-
-// Reads the list that starts at instruction n, and writes its rows.
-#[cycle(block_opening)]
-fn block(kinds: &[u8], places: &[u32], work: &mut [u32], n: usize, targets: Targets)
-    requires room { Room kinds.now places.now work.old }
-    requires near { Near targets }
-    ensures { work.new ≡ sets work.old (row_words * n) (words_in kinds.now places.now targets n (list_in kinds.now n)) }
-{
-    let mut m = n;
-    while m < kinds.len() {
-        let kind = kinds[m];
-        if is_opening(kind) {
-            m = opening(kinds, places, work, m, targets);
-        } else {
-            single(kinds, places, work, m, targets);
-            if is_last(kind) {
-                return;
+impl Program<'_> {
+    // Reads the list that starts at instruction n, and writes its rows.
+    #[cycle(block_opening)]
+    #[tactic(auto, using(crate::proofs::Rows::written))]
+    fn block(&self, work: &mut [u32], n: usize, targets: Targets)
+        requires room { row_words * length self.now.kinds.now ≤ length work.old }
+        requires near { Near targets }
+        ensures { work.new ≡ sets work.old (row_words * n) (words_in self.now.kinds.now self.now.places.now targets n (list_in self.now.kinds.now n)) }
+    {
+        let mut m = n;
+        while let Some(&kind) = self.kinds.get(m) {
+            if is_opening(kind) {
+                m = self.opening(work, m, targets);
+            } else {
+                put_row(
+                    work,
+                    m,
+                    self.places[m],
+                    jump_of(kind, targets),
+                    label_of(self.kinds, m),
+                );
+                if is_last(kind) {
+                    return;
+                }
+                m += 1;
             }
-            m += 1;
         }
     }
-}
 
-// Reads the block that instruction n opens, and writes its rows. The number past the block.
-#[cycle(block_opening)]
-fn opening(kinds: &[u8], places: &[u32], work: &mut [u32], n: usize, targets: Targets) -> usize
-    requires room { Room kinds.now places.now work.old }
-    requires near { Near targets }
-    requires opening { Opening kinds.now n }
-    ensures past { result ≡ n + size (block_in kinds.now n) }
-    ensures rows { work.new ≡ sets work.old (row_words * n) (words_in kinds.now places.now targets n (block_in kinds.now n)) }
-{
-    let found = first_row(kinds, places, work, n);
-    let first = n + 1;
-    let targets_inside = targets_in(kinds, n, found.end, targets);
-    block(kinds, places, work, first, targets_inside);
-    if found.second < found.end {
-        block(kinds, places, work, found.second, targets_inside);
+    // Reads the block that instruction n opens, and writes its rows. The number past the block.
+    #[cycle(block_opening)]
+    fn opening(&self, work: &mut [u32], n: usize, targets: Targets) -> usize
+        requires room { row_words * length self.now.kinds.now ≤ length work.old }
+        requires near { Near targets }
+        requires there { n < length self.now.kinds.now }
+        requires opens { opens (op_in self.now.kinds.now n) ≡ true }
+        ensures past { result ≡ n + size (block_in self.now.kinds.now n) }
+        ensures rows { work.new ≡ sets work.old (row_words * n) (words_in self.now.kinds.now self.now.places.now targets n (block_in self.now.kinds.now n)) }
+    {
+        let found = block_at(self.kinds, n);
+        put_row(work, n, self.places[n], found.jump, found.label);
+        let first = n + 1;
+        let targets_inside = inside(self.kinds[n], first, found.end, targets);
+        self.block(work, first, targets_inside);
+        if found.second < found.end {
+            self.block(work, found.second, targets_inside);
+        }
+        found.end
     }
-    found.end
 }
 
 // The place that the walk reaches from a place after one record.
+#[tactic(auto, using(records::proofs::Walk::walk_fits), unfolding(format::specs::Records::next))]
 fn next_place(file: &[u8], at: usize) -> usize
     requires { (at ≤ length file.now) × (length file.now ≤ longest) }
     ensures { result ≡ next file.now at }
@@ -130,6 +112,7 @@ struct Instructions {
     places: [u32; 1024],
 }
 
+#[tactic(auto, using(records::proofs::Walk::place_fits))]
 fn locate(file: &[u8], start: usize, count: usize) -> Instructions
     requires { (start ≤ length file.now) × (length file.now ≤ longest) × (count ≤ most_instructions) }
     ensures { Located file.now start count result.kinds result.places }
@@ -137,12 +120,10 @@ fn locate(file: &[u8], start: usize, count: usize) -> Instructions
     let mut kinds = [0u8; 1024];
     let mut places = [0u32; 1024];
     let mut at = start;
-    let mut n: usize = 0;
-    while n < count {
+    for n in 0..count {
         kinds[n] = byte_at(file, at);
         places[n] = at as u32;
         at = next_place(file, at);
-        n += 1;
     }
     Instructions { kinds, places }
 }
@@ -153,28 +134,26 @@ fn locate(file: &[u8], start: usize, count: usize) -> Instructions
 // The cost is in proportion to instructions times open blocks. `block_at` looks ahead for the end of its block, so an
 // instruction is passed once for each block around it. `next_label` goes from a label to the next of its own SWITCH, so all
 // the labels of a SWITCH together pass its list once. Calls are two deep for each open block, whatever the instructions.
+#[tactic(auto, unfolding(crate::specs::Prepared::filled))]
 pub fn fill(file: &[u8], start: usize, count: usize, work: &mut [u32])
     ensures { work.new ≡ filled file.now start count work.old }
 {
-    if LONGEST < file.len() {
-        return;
-    }
-    if file.len() < start {
-        return;
-    }
-    if MOST_INSTRUCTIONS < count {
-        return;
-    }
-    if work.len() < ROW_WORDS * count {
+    if LONGEST < file.len()
+        || file.len() < start
+        || MOST_INSTRUCTIONS < count
+        || work.len() < ROW_WORDS * count
+    {
         return;
     }
     let found = locate(file, start, count);
-    let kinds = found.kinds;
-    let places = found.places;
+    let program = Program {
+        kinds: &found.kinds[..count],
+        places: &found.places[..count],
+    };
     let nowhere = Targets {
         brk: 0,
         cont: 0,
         after: 0,
     };
-    block(&kinds[..count], &places[..count], work, 0, nowhere);
+    program.block(work, 0, nowhere);
 }
