@@ -26,7 +26,8 @@ module _ (c : ℕ) where
   ended_never (b ∷ bs) none = rw (ne_eqb b c (none 0 (omega arith)), ← ended_never bs (λ k h. none (suc k) (omega arith)))
 
   -- It stands at place i, and none behind it.
-  pub ended_last : (l : List ℕ) (i : ℕ) → i < length l → get_or l i 0 ≡ c → ((k : ℕ) → i < k → k < length l → get_or l k 0 ≡ c → ⊥) → i + 1 ≡ ended_length c l
+  pub ended_last : (l : List ℕ) (i : ℕ) → i < length l → get_or l i 0 ≡ c
+      → ((k : ℕ) → i < k → k < length l → get_or l k 0 ≡ c → ⊥) → i + 1 ≡ ended_length c l
   unfolding ended_length
   ended_last [] i h e none = absurd (omega arith)
   ended_last (b ∷ bs) zero h e none = rw (eq-eqb b c e, ← ended_never bs (λ k h. none (suc k) (omega arith) (omega arith)))

@@ -8,7 +8,7 @@ use Rattle.std.specs.List.{copy_within}
 use Rattle.std.proofs.lemmas.Bool.{cases_lt}
 
 -- A place past the end counts as the end.
-drop_min : (from : ℕ) (l : List ℕ) → drop (min from (length l)) l ≡ drop from l
+pub drop_min : (from : ℕ) (l : List ℕ) → drop (min from (length l)) l ≡ drop from l
 drop_min from l =
     ⊎_elim
     (λ (h : from < length l). let e : min from (length l) ≡ from = omega arith in rw e)
