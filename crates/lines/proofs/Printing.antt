@@ -7,35 +7,19 @@ use Rattle.format.proofs.Widths.{few_widths, widths_end, inside_by}
 use Rattle.text.specs.Parts.{space, line_feed, spaced}
 use Rattle.text.specs.Decimal.{decimal}
 use Rattle.text.proofs.Stores.{sets_append, sets_snoc}
-use Prim.Native.Nat.{◌+◌, ◌<◌, ◌≤◌, suc, ℕ}
+use Prim.Native.Nat.{◌+◌, ◌<◌, ◌≤◌, ℕ}
 use mathlib.Core.Path.{◌∙◌, ◌≡◌, ap, sym}
 use mathlib.Core.List.{List, [], ◌++◌, ◌∷◌}
 use native.Mathlib.Omega.{arith}
 use native.Mathlib.Numerals.{add-one}
-use native.Mathlib.Nat.{add-zero}
 use lib.ListN.{drop, drop_of_length-le, get_or, length, length-append, set}
 use lib.Seq.{drop-cons, sets}
-
--- ---- One field
-
-pub field_put : (entry one after : List ℕ) (n at : ℕ) → one ≡ set entry (at + 0) space → after ≡ sets one (at + 1) (decimal n)
-    → after ≡ sets entry at (space ∷ decimal n)
-field_put entry one after n at e f =
-    let a : at + 0 ≡ at = add-zero at in
-    let b : at + 1 ≡ suc at = add-one at in
-    f ∙ rw (e, a, b)
-
-pub field_length : (n r : ℕ) → r ≡ length (decimal n) → 1 + r ≡ length (space ∷ decimal n)
-field_length n r e = omega (arith, e)
 
 -- ---- The fields of a record
 
 -- The text of the fields from field i on, which stand from a place on.
 abbrev pub left : ℕ → List ℕ → ℕ → ℕ → List ℕ
 left kind file place i = spaced (numbers_at file place (drop i (widths (form_of kind))))
-
-pub fields_start : (kind : ℕ) (file entry : List ℕ) (from at : ℕ) → sets entry (at + 0) (left kind file from 0) ≡ sets entry at (spaced (numbers_at file from (widths (form_of kind))))
-fields_start kind file entry from at = rw (add-zero at)
 
 module _ (kind : ℕ) (file : List ℕ) (place i w : ℕ) (e : w ≡ get_or (widths (form_of kind)) i 0) where
   -- The text of a field, and that of those after it.

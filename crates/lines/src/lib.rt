@@ -34,15 +34,13 @@ fn put_fields(kind: u8, file: &[u8], from: usize, output: &mut [u8], at: usize) 
 {
     let mut place = from;
     let mut count: usize = 0;
-    let mut i: u8 = 0;
-    while i < MOST_FIELDS {
+    for i in 0..MOST_FIELDS {
         let width = field_width(kind, i);
         if width == 0 {
             return count;
         }
         count += put_field(readers::number_at(file, place, width), output, at + count);
-        place += width as usize;
-        i += 1;
+        place += usize::from(width);
     }
     count
 }
@@ -56,7 +54,7 @@ pub fn put_line(file: &[u8], at: u32, output: &mut [u8], to: u32) -> usize
     let place = at as usize;
     let front = to as usize;
     let kind = readers::byte_at(file, place);
-    let length = put_decimal(kind as u32, output, front);
+    let length = put_decimal(u32::from(kind), output, front);
     length + put_fields(kind, file, place + 1, output, front + length)
 }
 

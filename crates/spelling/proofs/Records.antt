@@ -7,12 +7,11 @@ use mathlib.Core.List.{List, [], ◌∷◌, ◌++◌, map}
 use Prim.Native.Nat.{ℕ, zero, suc, ◌+◌, ◌-◌, ◌*◌, ◌/◌, ◌%◌, ◌^◌, ◌≤◌, ◌<◌}
 use native.Mathlib.Omega.{arith}
 use native.Mathlib.Numerals.{add-one}
-use native.Mathlib.Nat.{add-zero, sub-zero}
 use borrow.Author.Tests.{ltb-true, ltb-false, not-true, not-false}
 use lib.Dec.{ltb}
-use lib.ListN.{length, get_or, take, drop, set, length-append, length-drop, drop_of_length-le}
+use lib.ListN.{length, get_or, take, drop, set, length-append, drop_of_length-le}
 use lib.Pow.{field, mod-mod-pow}
-use lib.Seq.{sets, take-length, drop-length, length-take-le, length-sets, drop-cons, drop-drop}
+use lib.Seq.{sets, take-length, drop-cons}
 use Rattle.format.specs.Kinds.{form_of, is_known, widths}
 use Rattle.format.specs.Fields.{little_endian}
 use Rattle.format.proofs.Widths.{sum, few_widths, widths_end, widths_known, known_small, known_sum, inside_by}
@@ -26,9 +25,6 @@ use Rattle.spelling.specs.Spelling.{numbers_in, field_bytes, kind_in, line_recor
 -- ---- The bytes of a number
 
 module _ (at width : ℕ) where
-  pub bytes_start : (n : ℕ) (entry : List ℕ) → sets entry (at + 0) (little_endian (width - 0) n) ≡ sets entry at (little_endian width n)
-  bytes_start n entry = rw (add-zero at, sub-zero width)
-
   module _ (out whole : List ℕ) (rest i : ℕ) (e : sets out (at + i) (little_endian (width - i) rest) ≡ whole) where
     pub bytes_next : (after : List ℕ) → i < width → after ≡ set out (at + i) (rest % 256) → sets after (at + (i + 1)) (little_endian (width - (i + 1)) (rest / 256)) ≡ whole
     unfolding little_endian
@@ -64,9 +60,6 @@ unfolding value_from
 first_value [] = refl
 first_value (p ∷ ps) = refl
 
-sum_of : (a n : ℕ) → a + (n + 1) ≡ a + n + 1
-sum_of a n = omega arith
-
 module _ (l : List ℕ) (n : ℕ) (e : n ≡ length (first (split space l))) where
   first_number : (w : ℕ) (ws rest : List ℕ) → rest ≡ drop (n + 1) l
       → field_bytes (w ∷ ws) (numbers_in l) ≡ little_endian w (value_of (take n l)) ++ field_bytes ws (numbers_in rest)
@@ -86,36 +79,6 @@ unfolding kind_in
 kind_is l v ev =
     ap (λ (x : ℕ). x % 2 ^ 8) ev ∙ mod-mod-pow (value_of (first (split space l))) 24 8
     ∙ ap (λ (x : ℕ). x % 256) (sym (first_value (split space l)))
-
--- The number that starts at a place, and where the next starts: after its space, or at the line's end.
-module _ (l : List ℕ) (from : ℕ) (inside : from ≤ length l) (rest digits : List ℕ) (er : rest ≡ drop from l) (ed : digits ≡ first (split space rest)) where
-  length_left : length rest ≡ length l - from
-  length_left = ap length er ∙ length-drop from l
-
-  first_is : digits ≡ first (split space (drop from l))
-  first_is = ed ∙ ap (λ (x : List ℕ). first (split space x)) er
-
-  pub number_value : (v : ℕ) → v ≡ value_of digits % 2 ^ 32 → v ≡ value_of (first (split space (drop from l))) % 2 ^ 32
-  number_value v e = e ∙ ap (λ (x : List ℕ). value_of x % 2 ^ 32) first_is
-
-  pub next_after : drop (from + length digits + 1) l ≡ drop (length (first (split space (drop from l))) + 1) (drop from l)
-  next_after = rw (← first_is, drop-drop (length digits + 1) from l, sum_of from (length digits))
-
-  pub next_within : length digits < length rest → from + length digits + 1 ≤ length l
-  next_within f = omega (arith, f, length_left)
-
-  module _ (f : length digits < length rest) (small : length l < 2 ^ 64) where
-    pub digits_fit : from + length digits < 2 ^ 64
-    digits_fit = omega (arith, small, next_within f)
-
-    pub next_fits : from + length digits + 1 < 2 ^ 64
-    next_fits = omega (arith, small, next_within f)
-
-  pub next_none : length rest ≤ length digits → drop (length l) l ≡ drop (length (first (split space (drop from l))) + 1) (drop from l)
-  next_none f =
-      let gone : drop (length digits + 1) (drop from l) ≡ [] =
-      drop_of_length-le (drop from l) {i = length digits + 1} (omega (arith, f, ap length er)) in
-      rw (← first_is) (drop-length l ∙ sym gone)
 
 -- The widths of the fields after the kind.
 abbrev fields : ℕ → List ℕ
@@ -244,14 +207,6 @@ module _ (l : List ℕ) (kind from size i : ℕ) where
 -- A record has its kind's byte.
 pub record_some : (l : List ℕ) → 0 < length (line_record l)
 record_some l = omega (arith, record_size l)
-
-pub line_counted : (r zeros out : List ℕ) (n : ℕ)
-    → out ≡ sets zeros 0 (record_line r 0)
-    → n ≡ length (record_line r 0)
-    → n ≤ 230
-    → length zeros ≡ 256
-    → n ≡ length (take n out)
-line_counted r zeros out n eo en few room = sym (length-take-le n out (omega (arith, few, room, ap length eo, length-sets zeros 0 (record_line r 0))))
 
 module _ (r l : List ℕ) (kind : ℕ) (known : Bool) (ek : kind ≡ get_or r 0 0) (e : known ≡ is_known kind) where
   asked : is_line_of r l ≡ (known && same (record_line r 0) l)

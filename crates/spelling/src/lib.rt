@@ -20,11 +20,9 @@ fn put_number(n: u32, width: u8, output: &mut [u8], at: usize)
     ensures { output.new ≡ sets output.old at (little_endian width n) }
 {
     let mut rest = n;
-    let mut i: u8 = 0;
-    while i < width {
-        put(output, at, i as usize, (rest % 256) as u8);
+    for i in 0..width {
+        put(output, at, usize::from(i), (rest % 256) as u8);
         rest /= 256;
-        i += 1;
     }
 }
 
@@ -42,17 +40,12 @@ fn number_from(line: &[u8], from: usize) -> Number
     ensures next { drop result.next line.now ≡ drop (length (first (split space (drop from line.now))) + 1) (drop from line.now) }
     ensures within { result.next ≤ length line.now }
 {
-    let end = line.len();
     let rest = rest_from(line, from);
     let digits = first_part(rest, SPACE);
-    let value = value(digits);
-    if digits.len() < rest.len() {
-        return Number {
-            value,
-            next: from + digits.len() + 1,
-        };
+    Number {
+        value: value(digits),
+        next: (from + digits.len() + 1).min(line.len()),
     }
-    Number { value, next: end }
 }
 
 // Puts the fields of a record of this kind after its first byte, from the numbers of a line from a place on; answers how many bytes the
@@ -64,8 +57,7 @@ fn put_fields(kind: u8, line: &[u8], from: usize, output: &mut [u8]) -> usize
 {
     let mut at = from;
     let mut size: usize = 1;
-    let mut i: u8 = 0;
-    while i < MOST_FIELDS {
+    for i in 0..MOST_FIELDS {
         let width = field_width(kind, i);
         if width == 0 {
             return size;
@@ -73,8 +65,7 @@ fn put_fields(kind: u8, line: &[u8], from: usize, output: &mut [u8]) -> usize
         let number = number_from(line, at);
         put_number(number.value, width, output, size);
         at = number.next;
-        size += width as usize;
-        i += 1;
+        size += usize::from(width);
     }
     size
 }

@@ -8,8 +8,8 @@ use native.Mathlib.Omega.{arith}
 use native.Mathlib.Nat.{add-zero, mod-eq_of_lt, pow-succ', one-le-pow}
 use native.Mathlib.Numerals.{add-one}
 use lib.Dec.{ltb}
-use lib.ListN.{length, set, length-append}
-use lib.Seq.{sets}
+use lib.ListN.{length, set, take, length-append}
+use lib.Seq.{sets, take-length}
 use borrow.Author.Tests.{ltb-true, ltb-false, lt-ltb, le-ltb}
 use Rattle.text.specs.Decimal.{digit, digits_within, decimal}
 use Rattle.text.proofs.Stores.{sets_snoc, sets_set, sets_out}
@@ -74,37 +74,51 @@ above_power (suc k) n h =
 pub count_one : (n : ℕ) → n < 10 → 1 ≡ length (decimal n)
 count_one n h = sym (length_small n h)
 
-pub count_between : (k n : ℕ) → 10 ^ k ≤ n → n < 10 ^ suc k → suc k ≡ length (decimal n)
-count_between k n a b = omega (arith, above_power k n a, below_power k n b)
+pub count_between : (k n : ℕ) → 10 ^ k ≤ n → n < 10 * 10 ^ k → k + 1 ≡ length (decimal n)
+count_between k n a b =
+    let tens : 10 ^ suc k ≡ 10 * 10 ^ k = pow-succ' 10 k in
+    omega (arith, above_power k n a, below_power k n (omega (arith, tens)))
 
 -- A number of 32 bits has at most ten digits.
 pub decimal_short : (n : ℕ) → n < 2 ^ 32 → length (decimal n) ≤ 10
 decimal_short n h = below_power 9 n (omega arith)
 
-pub count_most : (n : ℕ) → 10 ^ 9 ≤ n → n < 2 ^ 32 → 10 ≡ length (decimal n)
-count_most n a b = count_between 9 n a (omega arith)
-
 pub count_few : (n r : ℕ) → n < 2 ^ 32 → r ≡ length (decimal n) → r ≤ 10
 count_few n r h e = omega (arith, decimal_short n h)
 
--- ---- Putting the digits, the last one first: with those of what is left the output is the whole
+-- ---- Putting the digits, the last one first: with the k that are left to put the output is the whole
 
-module _ (at rest k : ℕ) (e : k ≡ length (decimal rest)) where
-  pub digits_left : 1 ≤ k
-  digits_left = omega (arith, some_digit rest)
+module _ (rest k : ℕ) (e : 0 < k → k ≡ length (decimal rest)) where
+  pub digits_fewer : 0 < k - 1 → k - 1 ≡ length (decimal (rest / 10))
+  digits_fewer h = on (ltb rest 10) refl
+    where
+      on : (t : Bool) → ltb rest 10 ≡ t → k - 1 ≡ length (decimal (rest / 10))
+      on true l = absurd (omega (arith, e (omega arith), length_small rest (ltb-true rest 10 l)))
+      on false l = omega (arith, e (omega arith), length_large rest (ltb-false rest 10 l))
 
-  pub digits_fewer : 10 ≤ rest → k - 1 ≡ length (decimal (rest / 10))
-  digits_fewer h = omega (arith, length_large rest h)
+  pub digits_more : (at : ℕ) (l whole m : List ℕ) → sets l at (take k (decimal rest)) ≡ whole → 0 < k → m ≡ set l (at + (k - 1)) (digit (rest % 10))
+      → sets m at (take (k - 1) (decimal (rest / 10))) ≡ whole
+  digits_more at l whole m f h p = on (ltb rest 10) refl
+    where
+      on : (t : Bool) → ltb rest 10 ≡ t → sets m at (take (k - 1) (decimal (rest / 10))) ≡ whole
+      on true s =
+          let small : rest < 10 = ltb-true rest 10 s in
+          let one : k ≡ 1 = omega (arith, e h, length_small rest small) in
+          rw (p, one, mod-eq_of_lt small, add-zero at) (rw (one, decimal_small rest small) at f)
+      on false s =
+          let large : 10 ≤ rest = ltb-false rest 10 s in
+          let ds : List ℕ = decimal (rest / 10) in
+          let q : k - 1 ≡ length ds = omega (arith, e h, length_large rest large) in
+          rw (p, q, take-length ds, sets_set l at (at + length ds) ds (digit (rest % 10)) (omega arith))
+          (sym (sets_snoc l at ds (digit (rest % 10))) ∙ rw (← decimal_large rest large) (rw (e h, take-length (decimal rest)) at f))
 
-  module _ (l whole : List ℕ) (f : sets l at (decimal rest) ≡ whole) (m : List ℕ) where
-    pub digits_more : 10 ≤ rest → m ≡ set l (at + (k - 1)) (digit (rest % 10)) → sets m at (decimal (rest / 10)) ≡ whole
-    digits_more h p =
-        let ds : List ℕ = decimal (rest / 10) in
-        rw (p, digits_fewer h, sets_set l at (at + length ds) ds (digit (rest % 10)) (omega arith))
-        (sym (sets_snoc l at ds (digit (rest % 10))) ∙ rw (← decimal_large rest h) f)
+pub digits_start : (n k at : ℕ) (l : List ℕ) → k ≡ length (decimal n) → sets l at (take k (decimal n)) ≡ sets l at (decimal n)
+digits_start n k at l e = rw (e, take-length (decimal n))
 
-    pub digits_end : rest < 10 → m ≡ set l (at + 0) (digit (rest % 10)) → m ≡ whole
-    digits_end h p = rw (p, mod-eq_of_lt h, add-zero at) (rw (← f, decimal_small rest h))
+pub digits_end : (n k at : ℕ) (l whole : List ℕ) → sets l at (take k (decimal n)) ≡ whole → k ≤ 0 → l ≡ whole
+digits_end n k at l whole f h =
+    let z : k ≡ 0 = omega arith in
+    rw z at f
 
 pub digits_none : (n at : ℕ) (l : List ℕ) → length l ≤ at → l ≡ sets l at (decimal n)
 digits_none n at l h = sym (sets_out l at (decimal n) h)

@@ -1,60 +1,39 @@
 -- Looking for the last separator from the end: what follows the place has none.
 -- Assumes nothing.
-use mathlib.Core.Path.{◌≡◌, refl, sym, ap, ◌∙◌}
+use mathlib.Core.Path.{◌≡◌, refl, ap}
 use mathlib.Core.Logic.{◌⊎◌, inl, inr, ⊎_elim}
 use mathlib.Core.Bool.{Bool, true, false, ◌||◌}
 use mathlib.Core.List.{List, [], ◌∷◌, ◌++◌}
-use Prim.Native.Nat.{ℕ, suc, ◌-◌, ◌<◌, ◌≤◌}
+use Prim.Native.Nat.{ℕ, zero, suc, ◌+◌, ◌<◌, ◌≤◌}
 use native.Mathlib.Omega.{arith}
 use lib.Dec.{eqb}
-use lib.ListN.{length, take, get_or, length-append}
-use lib.Seq.{take-length, take-suc, length-take-le}
+use lib.ListN.{length, get_or, length-append}
 use borrow.Author.Tests.{eqb-true, eqb-false, eq-eqb, ne_eqb, lt-ltb}
 use Rattle.text.specs.Parts.{ended_length}
 use Rattle.text.proofs.Lines.{Without}
-
--- ---- One byte more at the end
 
 or_true : (b : Bool) → (b || true) ≡ true
 or_true true = refl
 or_true false = refl
 
+-- ---- Where the last separator stands
+
 module _ (c : ℕ) where
-  ended_by : (l : List ℕ) (b : ℕ) → b ≡ c → ended_length c (l ++ (b ∷ [])) ≡ suc (length l)
+  -- It stands at no place.
+  pub ended_never : (l : List ℕ) → ((k : ℕ) → k < length l → get_or l k 0 ≡ c → ⊥) → 0 ≡ ended_length c l
   unfolding ended_length
-  ended_by [] b e = rw (eq-eqb b c e)
-  ended_by (x ∷ xs) b e = rw (ended_by xs b e, lt-ltb 0 (suc (length xs)) (omega arith), or_true (eqb x c))
+  ended_never [] none = refl
+  ended_never (b ∷ bs) none = rw (ne_eqb b c (none 0 (omega arith)), ← ended_never bs (λ k h. none (suc k) (omega arith)))
 
-  ended_before : (l : List ℕ) (b : ℕ) → (b ≡ c → ⊥) → ended_length c (l ++ (b ∷ [])) ≡ ended_length c l
+  -- It stands at place i, and none behind it.
+  pub ended_last : (l : List ℕ) (i : ℕ) → i < length l → get_or l i 0 ≡ c
+      → ((k : ℕ) → i < k → k < length l → get_or l k 0 ≡ c → ⊥) → i + 1 ≡ ended_length c l
   unfolding ended_length
-  ended_before [] b d = rw (ne_eqb b c d)
-  ended_before (x ∷ xs) b d = rw (ended_before xs b d)
-
-  -- ---- From the end on
-
-  pub ended_start : (l : List ℕ) → ended_length c (take (length l) l) ≡ ended_length c l
-  ended_start l = rw (take-length l)
-
-  module _ (l : List ℕ) (w end : ℕ) (inside : end ≤ length l) (e : ended_length c (take end l) ≡ w) where
-    pub ended_none : end ≤ 0 → 0 ≡ w
-    unfolding ended_length
-    ended_none h =
-        let z : end ≡ 0 = omega arith in
-        rw z at e
-
-    module _ (more : 0 < end) where
-      one_more : take end l ≡ take (end - 1) l ++ (get_or l (end - 1) 0 ∷ [])
-      one_more =
-          let s : end ≡ suc (end - 1) = omega arith in
-          ap (λ (n : ℕ). take n l) s ∙ take-suc l (end - 1) 0 (omega arith)
-
-      pub ended_here : get_or l (end - 1) 0 ≡ c → end ≡ w
-      ended_here s =
-          let n : length (take (end - 1) l) ≡ end - 1 = length-take-le (end - 1) l (omega arith) in
-          omega (arith, n, sym e ∙ ap (ended_length c) one_more ∙ ended_by (take (end - 1) l) (get_or l (end - 1) 0) s)
-
-      pub ended_next : (get_or l (end - 1) 0 ≡ c → ⊥) → ended_length c (take (end - 1) l) ≡ w
-      ended_next d = sym (ap (ended_length c) one_more ∙ ended_before (take (end - 1) l) (get_or l (end - 1) 0) d) ∙ e
+  ended_last [] i h e none = absurd (omega arith)
+  ended_last (b ∷ bs) zero h e none = rw (eq-eqb b c e, ← ended_never bs (λ k h. none (suc k) (omega arith) (omega arith)))
+  ended_last (b ∷ bs) (suc i) h e none =
+      let rest : i + 1 ≡ ended_length c bs = ended_last bs i (omega arith) e (λ k f h. none (suc k) (omega arith) (omega arith)) in
+      rw (← rest, lt-ltb 0 (i + 1) (omega arith), or_true (eqb b c)) (omega arith)
 
 -- ---- What stands before the last separator, and after it
 

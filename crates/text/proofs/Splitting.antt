@@ -3,13 +3,17 @@
 use mathlib.Core.Path.{◌≡◌, refl, sym, ap, ap₂, ◌∙◌}
 use mathlib.Core.Bool.{Bool, true, false}
 use mathlib.Core.List.{List, [], ◌∷◌, ◌++◌}
-use Prim.Native.Nat.{ℕ, suc, ◌+◌, ◌-◌, ◌<◌, ◌≤◌}
+use Prim.Native.Nat.{ℕ, suc, ◌+◌, ◌<◌, ◌≤◌}
 use native.Mathlib.Omega.{arith}
 use native.Mathlib.Numerals.{add-one}
 use lib.Dec.{eqb}
-use lib.ListN.{length, take, drop, get_or, drop_of_length-le, length-drop}
-use lib.Seq.{take-length, take_all, take-nil, drop-length, drop-cons, length-take-le}
+use lib.ListN.{length, take, drop, get_or}
+use lib.Seq.{take-length, length-take-le}
 use borrow.Author.Tests.{eqb-true, eq-eqb, ne_eqb}
+use Rattle.std.specs.List.{AllWithin, HoldsAt}
+use Rattle.std.specs.Option.{MatchOption, unwrap_or}
+use Rattle.std.proofs.Common.{Option}
+use Rattle.std.proofs.lemmas.Iterator.{index_from_first}
 use Rattle.text.specs.Parts.{split, first}
 use Rattle.text.proofs.Lines.{Without}
 
@@ -99,51 +103,25 @@ module _ (c : ℕ) (l : List ℕ) where
         let all : length (parted c l).0 ≡ length l = sym length_is ∙ h in
         found.parts ∙ ap₂ (λ (p : List ℕ) (ps : List (List ℕ)). p ∷ ps) found.taken (found.alone all) ∙ rw (all, take-length)
 
--- ---- Looking for the first separator: it is as far as from place i on, and i further
+-- ---- Where the first separator stands
 
 module _ (c : ℕ) where
   ends_here : (b : ℕ) (bs : List ℕ) → b ≡ c → length (first (split c (b ∷ bs))) ≡ 0
   unfolding split
   ends_here b bs e = rw (eq-eqb b c e)
 
-  goes_on : (b : ℕ) (bs : List ℕ) → (b ≡ c → ⊥) → length (first (split c (b ∷ bs))) ≡ suc (length (first (split c bs)))
+  goes_on : (b : ℕ) (bs : List ℕ) → (b ≡ c → ⊥) → length (first (split c (b ∷ bs))) ≡ length (first (split c bs)) + 1
   unfolding split
-  goes_on b bs d = rw (ne_eqb b c d, (found c bs).parts)
+  goes_on b bs d = rw (ne_eqb b c d, (found c bs).parts, add-one (length (parted c bs).0))
 
   -- A text without a separator lies in the first part.
   pub first_without : (p rest : List ℕ) → Without c p → length p ≤ length (first (split c (p ++ rest)))
   first_without [] rest w = omega arith
   first_without (b ∷ p) rest w = omega (arith, goes_on b (p ++ rest) w.0, first_without p rest w.1)
 
-  pub part_start : (l : List ℕ) → 0 + length (first (split c (drop 0 l))) ≡ length (first (split c l))
-  part_start l = omega arith
-
-  module _ (l : List ℕ) (i : ℕ) where
-    abbrev Reached : Type 0
-    Reached = i + length (first (split c (drop i l))) ≡ length (first (split c l))
-
-    pub part_here : Reached → i < length l → get_or l i 0 ≡ c → i ≡ length (first (split c l))
-    part_here e h s =
-        let none : length (first (split c (drop i l))) ≡ 0 = rw (drop-cons l i 0 h) (ends_here _ _ s) in
-        omega (arith, e, none)
-
-    pub part_more : Reached → i < length l → (get_or l i 0 ≡ c → ⊥) → i + 1 + length (first (split c (drop (i + 1) l))) ≡ length (first (split c l))
-    part_more e h s =
-        let one : length (first (split c (drop i l))) ≡ suc (length (first (split c (drop (suc i) l)))) =
-        rw (drop-cons l i 0 h) (goes_on _ _ s) in
-        rw (add-one i) (omega (arith, e, one))
-
-    pub part_end : Reached → length l ≤ i → i ≡ length (first (split c l))
-    unfolding split
-    part_end e h =
-        let none : length (first (split c (drop i l))) ≡ 0 = rw (drop_of_length-le l h) in
-        omega (arith, e, none)
-
--- ---- Parts that are lent
-
-module _ (l : List ℕ) (at : ℕ) where
-  pub rest_is : take (length l - at) (drop at l) ≡ drop at l
-  rest_is = take_all (length l - at) (drop at l) (omega (arith, length-drop at l))
-
-  pub rest_none : length l ≤ at → take (length l - length l) (drop (length l) l) ≡ drop at l
-  rest_none h = rw (drop_of_length-le l h, drop-length l) (take-nil (length l - length l))
+  -- The first part ends at the first separator, or with the text.
+  pub part_found : (l : List ℕ) (r : Option ℕ)
+      → MatchOption r (AllWithin (λ b. b ≡ c → ⊥) l 0 (length l)) (λ i. (i < length l) × HoldsAt (λ b. b ≡ c) l i × AllWithin (λ b. b ≡ c → ⊥) l 0 i)
+      → length (first (split c l)) ≡ unwrap_or r (length l)
+  unfolding split
+  part_found = index_from_first (λ l. length (first (split c l))) (λ b. b ≡ c) (λ b. b ≡ c → ⊥) refl ends_here goes_on

@@ -1,13 +1,12 @@
 -- Stores one after the other, and what a lent output then holds.
 -- Assumes nothing.
-use mathlib.Core.Path.{◌≡◌, refl, sym, ap, ◌∙◌}
+use mathlib.Core.Path.{◌≡◌, refl, ap, ◌∙◌}
 use mathlib.Core.List.{List, [], ◌∷◌, ◌++◌}
-use Prim.Native.Nat.{ℕ, suc, ◌+◌, ◌-◌, ◌<◌, ◌≤◌}
+use Prim.Native.Nat.{ℕ, suc, ◌+◌, ◌<◌, ◌≤◌}
 use native.Mathlib.Omega.{arith}
 use native.Mathlib.Nat.{add-zero, add-suc, suc-add}
-use native.Mathlib.Numerals.{add-one}
-use lib.ListN.{length, get_or, set, drop, drop_of_length-le, take}
-use lib.Seq.{sets, set_comm, set_out, drop-cons, sets-eq, take_at}
+use lib.ListN.{length, set, drop, take}
+use lib.Seq.{sets, set_comm, set_out, sets-eq, take_at}
 use borrow.Author.Tests.{lt-ltb, le-ltb}
 use Rattle.text.specs.Output.{refusal, wrote, written, output_short, delivered}
 
@@ -32,31 +31,6 @@ pub front : (entry out t : List ℕ) (n : ℕ) → out ≡ sets entry 0 t → n 
 front entry out t n e en h =
     let z : 0 + length t ≡ length t = omega arith in
     rw (e, en) (ap (λ (x : List ℕ). take (length t) x) (sets-eq t entry 0 (omega arith)) ∙ take_at t (drop (0 + length t) entry) (length t) refl)
-
--- ---- A byte past the end is not put
-
-module _ (l : List ℕ) (at k v : ℕ) where
-  pub set_after : length l ≤ at → l ≡ set l (at + k) v
-  set_after h = sym (set_out l (at + k) v (omega arith))
-
-  pub set_past : length l - at ≤ k → l ≡ set l (at + k) v
-  set_past h = sym (set_out l (at + k) v (omega arith))
-
--- ---- A loop that puts vs: l is left with those before i, and those from i on make it the whole
-
-module _ (at : ℕ) (vs : List ℕ) where
-  pub sets_begin : (l : List ℕ) → sets l (at + 0) (drop 0 vs) ≡ sets l at vs
-  sets_begin l = rw (add-zero at)
-
-  module _ (l whole : List ℕ) (i : ℕ) (e : sets l (at + i) (drop i vs) ≡ whole) where
-    pub sets_more : (m : List ℕ)
-        → i < length vs
-        → m ≡ set l (at + i) (get_or vs i 0)
-        → sets m (at + (i + 1)) (drop (i + 1) vs) ≡ whole
-    sets_more m h s = rw (s, add-one i, add-suc at i) (rw (← e, drop-cons vs i 0 h))
-
-    pub sets_end : length vs ≤ i → l ≡ whole
-    sets_end h = rw (← e, drop_of_length-le vs h)
 
 -- ---- Delivered whole, or not at all
 

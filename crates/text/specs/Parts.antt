@@ -1,6 +1,7 @@
 -- Lines of numbers, and the parts of a text between its separators.
 -- Assumes nothing.
-use Rattle.std.specs.Prelude.{ℕ, suc, Bool, true, false, cond, ◌&&◌, ◌||◌, List, [], ◌∷◌, ◌++◌, eqb, ltb}
+use Rattle.std.specs.Prelude.{ℕ, suc, Bool, cond, ◌||◌, List, [], ◌∷◌, ◌++◌, eqb, ltb}
+use Rattle.std.specs.Str.{bytes_eq}
 use Rattle.text.specs.Decimal.{decimal}
 
 abbrev pub space : ℕ
@@ -39,8 +40,5 @@ ended_length c [] = 0
 ended_length c (b ∷ bs) = cond (eqb b c || ltb 0 (ended_length c bs)) (suc (ended_length c bs)) 0
 
 -- Whether two texts are the same.
-unfoldable pub same : List ℕ → List ℕ → Bool
-same [] [] = true
-same [] (b ∷ bs) = false
-same (a ∷ rest) [] = false
-same (a ∷ rest) (b ∷ bs) = eqb a b && same rest bs
+abbrev pub same : List ℕ → List ℕ → Bool
+same = bytes_eq

@@ -15,14 +15,14 @@ pub enum Filled {
 // "31 output short"
 pub const OUTPUT_SHORT: u8 = 31;
 
-// Puts a byte k places after a place. Past the end nothing is put, so that a sum that is too large is never taken.
+// Puts a byte k places after a place. Past the end nothing is put, nor where the sum is past every end. (Of a slice's `get_mut` no
+// contract says what the slice holds afterwards.)
 pub fn put(output: &mut [u8], at: usize, k: usize, byte: u8)
     ensures { output.new ≡ set output.old (at + k) byte }
 {
-    if at < output.len() {
-        if k < output.len() - at {
-            output[at + k] = byte;
-        }
+    let place = at.saturating_add(k);
+    if place < output.len() {
+        output[place] = byte;
     }
 }
 
@@ -30,10 +30,8 @@ pub fn put(output: &mut [u8], at: usize, k: usize, byte: u8)
 pub fn put_all(output: &mut [u8], at: usize, bytes: &[u8])
     ensures { output.new ≡ sets output.old at bytes.now }
 {
-    let mut i: usize = 0;
-    while i < bytes.len() {
-        put(output, at, i, bytes[i]);
-        i += 1;
+    for (i, byte) in bytes.iter().enumerate() {
+        put(output, at, i, *byte);
     }
 }
 
@@ -41,13 +39,8 @@ pub fn put_all(output: &mut [u8], at: usize, bytes: &[u8])
 pub fn move_to_front(text: &mut [u8], from: usize)
     ensures { text.new ≡ sets text.old 0 (drop from text.old) }
 {
-    let mut to: usize = 0;
-    let mut at = from;
-    while at < text.len() {
-        text[to] = text[at];
-        to += 1;
-        at += 1;
-    }
+    let from = from.min(text.len());
+    text.copy_within(from.., 0);
 }
 
 // Writes bytes from the output's front, or nothing where it is too short for all of them.

@@ -2,22 +2,18 @@
 ghost use Rattle.std.specs.Prelude.{◌≡◌, length, drop};
 ghost use Rattle.text.specs.Parts.{same, first, split, ended_length};
 
-pub const SPACE: u8 = 32;
+pub const SPACE: u8 = b' ';
 
-pub const LINE_FEED: u8 = 10;
+pub const LINE_FEED: u8 = b'\n';
 
 // The length of a text's first part: where the first separator stands, or the text's end.
 pub fn part_length(bytes: &[u8], separator: u8) -> usize
     ensures { result ≡ length (first (split separator bytes.now)) }
 {
-    let mut i: usize = 0;
-    while i < bytes.len() {
-        if bytes[i] == separator {
-            return i;
-        }
-        i += 1;
-    }
-    i
+    bytes
+        .iter()
+        .position(|byte| *byte == separator)
+        .unwrap_or(bytes.len())
 }
 
 // A text's first part.
@@ -32,40 +28,22 @@ pub fn first_part(bytes: &[u8], separator: u8) -> &[u8]
 pub fn ended_length(bytes: &[u8], separator: u8) -> usize
     ensures { result ≡ ended_length separator bytes.now }
 {
-    let mut end = bytes.len();
-    while end > 0 {
-        if bytes[end - 1] == separator {
-            return end;
-        }
-        end -= 1;
+    match bytes.iter().rposition(|byte| *byte == separator) {
+        Some(last) => last + 1,
+        None => 0,
     }
-    0
 }
 
 // What a text has from a place on, nothing past its end.
 pub fn rest_from(bytes: &[u8], at: usize) -> &[u8]
     ensures { result.now ≡ drop at bytes.now }
 {
-    let end = bytes.len();
-    if at < end {
-        return &bytes[at..end];
-    }
-    &bytes[end..end]
+    bytes.get(at..).unwrap_or(&[])
 }
 
 // Whether two texts are the same.
 pub fn is_same(a: &[u8], b: &[u8]) -> bool
     ensures { result ≡ same a.now b.now }
 {
-    if a.len() != b.len() {
-        return false;
-    }
-    let mut i: usize = 0;
-    while i < a.len() {
-        if a[i] != b[i] {
-            return false;
-        }
-        i += 1;
-    }
-    true
+    a == b
 }
