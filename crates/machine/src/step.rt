@@ -18,11 +18,7 @@ use sources::parts;
 fn bytes_from(file: &[u8], at: usize) -> &[u8]
     ensures { result.now ≡ drop at file.now }
 {
-    if at < file.len() {
-        &file[at..]
-    } else {
-        &file[..0]
-    }
+    &file[at.min(file.len())..]
 }
 
 // Carries out instruction n of the prepared rows.
