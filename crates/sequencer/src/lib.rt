@@ -15,7 +15,14 @@ mod labels;
 pub mod prepared;
 
 // What comes next after instruction n, which has this kind, x being what a UIF or SWITCH looks at.
-pub fn next_after(file: &[u8], rows: &[u32], immediates: &[u32], n: u32, kind: u8, x: u32) -> Option<usize>
+pub fn next_after(
+    file: &[u8],
+    rows: &[u32],
+    immediates: &[u32],
+    n: u32,
+    kind: u8,
+    x: u32,
+) -> Option<usize>
     ensures { result ≡ comes_next (ops_of file.now (place_in rows.now)) (cases_of immediates.now file.now (place_in rows.now)) (row_in rows.now) (op_of kind) x n }
 {
     let after = n as usize + 1;
