@@ -7,8 +7,7 @@ use native.Mathlib.Nat.{zero-add, suc-add}
 use mathlib.Core.Bool.{true}
 use mathlib.Core.List.{[]}
 use lib.ListN.{length}
-use Rattle.blocks.specs.declared.Next.{Next}
-use Rattle.blocks.specs.declared.Next.TheVariants.{At, Ended}
+use Rattle.std.specs.Prelude.{Option, Some, None}
 use Rattle.blocks.specs.Control.{Op, Machine, op_at}
 use Rattle.blocks.specs.Lists.{nested_lists}
 use Rattle.blocks.specs.Nesting.{accepts}
@@ -78,12 +77,12 @@ Final b (cont c s) = ⊥
 Final b (ended c s) = c ≤ b
 Final b (halted n c s) = c ≤ b
 
-follow_final : {S : Type 0} (b : ℕ) (onward : ℕ → S → Reading S) (c : ℕ) (x : Next) (s : S)
+follow_final : {S : Type 0} (b : ℕ) (onward : ℕ → S → Reading S) (c : ℕ) (x : Option ℕ) (s : S)
     → ((n : ℕ) (s : S) → Final b (onward n s))
     → c ≤ b
     → Final b (follow onward c x s)
-follow_final b onward c (At n) s f h = f n s
-follow_final b onward c Ended s f h = h
+follow_final b onward c (Some n) s f h = f n s
+follow_final b onward c None s f h = h
 
 module _ {S : Type 0} (M : Machine S) (T : ℕ → Row) where
   pub run_final : (b left c n : ℕ) (s : S) → c + left ≤ b → Final b (run M T left c n s)
@@ -103,11 +102,11 @@ module _ {S : Type 0} (M : Machine S) (T : ℕ → Row) where
   go_on b (cont c s) = cont c s
   go_on b (ended c s) = ended c s
 
-  follow_on : (a b c : ℕ) (x : Next) (s : S)
+  follow_on : (a b c : ℕ) (x : Option ℕ) (s : S)
       → ((n : ℕ) (s : S) → run M T (a + b) c n s ≡ go_on b (run M T a c n s))
       → follow (run M T (a + b) c) c x s ≡ go_on b (follow (run M T a c) c x s)
-  follow_on a b c (At n) s f = f n s
-  follow_on a b c Ended s f = refl
+  follow_on a b c (Some n) s f = f n s
+  follow_on a b c None s f = refl
 
   -- A budget in two parts.
   pub run_on : (a b c n : ℕ) (s : S) → run M T (a + b) c n s ≡ go_on b (run M T a c n s)

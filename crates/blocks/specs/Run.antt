@@ -1,8 +1,6 @@
 -- The run by the table: one step, and steps one after the other.
 -- Assumes nothing.
-use Rattle.std.specs.Prelude.{ℕ, zero, suc, cond, eqb}
-use Rattle.blocks.specs.declared.Next.{Next}
-use Rattle.blocks.specs.declared.Next.TheVariants.{At, Ended}
+use Rattle.std.specs.Prelude.{ℕ, zero, suc, cond, eqb, Option, Some, None}
 use Rattle.blocks.specs.Control.{Op, PLAIN, ELSE, ENDIF, BGNLOOP, ENDLOOP, BRK, CONT, DEFAULT, ENDSWITCH, END, UIF, SWITCH, CASE, Machine, op_at, case_of, default_at}
 use Rattle.blocks.specs.Reading.{Reading, ended, halted}
 use Rattle.blocks.specs.Table.{Row}
@@ -11,16 +9,16 @@ use Rattle.blocks.specs.Table.{Row}
 abbrev pub most_instructions : ℕ
 most_instructions = 1024
 
--- What comes next after a step, and the state that it leaves.
+-- The number of the instruction that comes next after a step, none where the program ended, and the state that it leaves.
 pub record Step (S : Type 0) : Type 0 where
-  pub next : Next
+  pub next : Option ℕ
   pub state : S
 
 module _ {S : Type 0} where
   -- `onward` goes on from the instruction that comes next; where the program ended, c steps were carried out.
-  abbrev pub follow : (ℕ → S → Reading S) → ℕ → Next → S → Reading S
-  follow onward c (At n) s = onward n s
-  follow onward c Ended s = ended c s
+  abbrev pub follow : (ℕ → S → Reading S) → ℕ → Option ℕ → S → Reading S
+  follow onward c (Some n) s = onward n s
+  follow onward c None s = ended c s
 
 -- What comes next goes by the control instructions, the words of the CASEs and the rows.
 module _ (op : ℕ → Op) (value : ℕ → ℕ) (T : ℕ → Row) where
@@ -37,20 +35,20 @@ module _ (op : ℕ → Op) (value : ℕ → ℕ) (T : ℕ → Row) where
   -- ENDLOOP and CONT go after BGNLOOP, CONT that of the innermost enclosing loop. BRK goes after the end of the innermost
   -- enclosing loop or SWITCH. SWITCH goes after the CASE equal to its x, else after DEFAULT, else after ENDSWITCH. A label
   -- reached from above does nothing. Others fall through." (01, Blocks) The row at n has these as numbers.
-  abbrev pub comes_next : Op → ℕ → ℕ → Next
-  comes_next UIF x n = At (cond (eqb x 0) (T n).jump (suc n))
-  comes_next ELSE x n = At (T n).jump
-  comes_next ENDLOOP x n = At (T n).jump
-  comes_next CONT x n = At (T n).jump
-  comes_next BRK x n = At (T n).jump
-  comes_next SWITCH x n = At (walk most_instructions x (T n).label (T n).jump)
-  comes_next END x n = Ended
-  comes_next CASE x n = At (suc n)
-  comes_next DEFAULT x n = At (suc n)
-  comes_next PLAIN x n = At (suc n)
-  comes_next ENDIF x n = At (suc n)
-  comes_next BGNLOOP x n = At (suc n)
-  comes_next ENDSWITCH x n = At (suc n)
+  abbrev pub comes_next : Op → ℕ → ℕ → Option ℕ
+  comes_next UIF x n = Some (cond (eqb x 0) (T n).jump (suc n))
+  comes_next ELSE x n = Some (T n).jump
+  comes_next ENDLOOP x n = Some (T n).jump
+  comes_next CONT x n = Some (T n).jump
+  comes_next BRK x n = Some (T n).jump
+  comes_next SWITCH x n = Some (walk most_instructions x (T n).label (T n).jump)
+  comes_next END x n = None
+  comes_next CASE x n = Some (suc n)
+  comes_next DEFAULT x n = Some (suc n)
+  comes_next PLAIN x n = Some (suc n)
+  comes_next ENDIF x n = Some (suc n)
+  comes_next BGNLOOP x n = Some (suc n)
+  comes_next ENDSWITCH x n = Some (suc n)
 
 module _ {S : Type 0} (M : Machine S) (T : ℕ → Row) where
   -- One step at instruction n.

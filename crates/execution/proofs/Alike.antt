@@ -24,8 +24,7 @@ use Rattle.checker.proofs.Accepted.{source_inside, indirect_file}
 use Rattle.checker.proofs.Followed.{followed}
 use Rattle.destinations.specs.Destinations.{components, zeros}
 use Rattle.sources.specs.Operands.{Env, word_in, env_with, four_from, register_words, if_declared, register_of, taken, taken_at, source_of, kind_byte, nth_source, sources_of}
-use Rattle.sources.specs.declared.operands.Place.{Place}
-use Rattle.sources.specs.declared.operands.Place.TheVariants.{Register, Nowhere}
+use Rattle.std.specs.Prelude.{Option, Some, None}
 use Rattle.lending.specs.Lent.{asked_indirectly, bank_env}
 use Rattle.execution.specs.Program.{place_of, env_of}
 
@@ -64,19 +63,19 @@ module _ (declared : ℕ → ℕ → Bool) (immediates inputs constants r : List
           rw is (four_same inputs 32 n below)
       by false e false q = rw (e, q)
 
-  -- ---- Registers
+  -- ---- Somes
 
   declared_same : (f : ℕ) (z : ℤ) → (eqb f CONST || eqb f TEMP) ≡ true → if_declared (asked_indirectly declared) f z ≡ if_declared declared f z
   declared_same f (pos n) h = rw h
   declared_same f (negsuc n) h = refl
 
   -- A register that is found by its sum is declared.
-  found_declared : (f : ℕ) (z : ℤ) (n : ℕ) → if_declared declared f z ≡ Register n → declared f n ≡ true
+  found_declared : (f : ℕ) (z : ℤ) (n : ℕ) → if_declared declared f z ≡ Some n → declared f n ≡ true
   found_declared f (pos k) n e = by (declared f k) refl
     where
       by : (t : Bool) → declared f k ≡ t → declared f n ≡ true
       by true q =
-          let there : Register k ≡ Register n = rw q at e in
+          let there : Some k ≡ Some n = rw q at e in
           let same : k ≡ n = cc in
           rw (← same) q
       by false q = let z : ◌≡◌ {A = ℕ} 0 1 = cc in absurd (omega arith)
@@ -97,15 +96,15 @@ module _ (declared : ℕ → ℕ → Bool) (immediates inputs constants r : List
       place_same = by (eqb (indirection s) 0) refl
         where
           by : (t : Bool) → eqb (indirection s) 0 ≡ t
-              → cond t (Register s.index) (if_declared (asked_indirectly declared) s.file sum) ≡ cond t (Register s.index) (if_declared declared s.file sum)
+              → cond t (Some s.index) (if_declared (asked_indirectly declared) s.file sum) ≡ cond t (Some s.index) (if_declared declared s.file sum)
           by true e = refl
           by false e = declared_same s.file sum (steered (eqb-false _ _ e))
 
-      place_inside : (n : ℕ) → register_of declared r s ≡ Register n → (s.file ≡ IMM → ⊥) → n < registers_of s.file
+      place_inside : (n : ℕ) → register_of declared r s ≡ Some n → (s.file ≡ IMM → ⊥) → n < registers_of s.file
       unfolding register_of
       place_inside n there other = by (eqb (indirection s) 0) refl there
         where
-          by : (t : Bool) → eqb (indirection s) 0 ≡ t → cond t (Register s.index) (if_declared declared s.file sum) ≡ Register n → n < registers_of s.file
+          by : (t : Bool) → eqb (indirection s) 0 ≡ t → cond t (Some s.index) (if_declared declared s.file sum) ≡ Some n → n < registers_of s.file
           by true e q =
               let same : s.index ≡ n = cc in
               subst (λ (k : ℕ). k < registers_of s.file) same (direct (eqb-true _ _ e) other)
@@ -115,9 +114,9 @@ module _ (declared : ℕ → ℕ → Bool) (immediates inputs constants r : List
       unfolding source_of
       source_same = ap (taken_at banked r s) place_same ∙ by (register_of declared r s) refl
         where
-          by : (p : Place) → register_of declared r s ≡ p → taken_at banked r s p ≡ taken_at given r s p
-          by (Register n) e = ap (λ (q : List ℕ). taken q s) (words_same s.file n (place_inside n e))
-          by Nowhere e = refl
+          by : (p : Option ℕ) → register_of declared r s ≡ p → taken_at banked r s p ≡ taken_at given r s p
+          by (Some n) e = ap (λ (q : List ℕ). taken q s) (words_same s.file n (place_inside n e))
+          by None e = refl
 
 -- ---- The sources of a record
 

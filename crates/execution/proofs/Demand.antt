@@ -10,8 +10,7 @@ use native.Mathlib.Omega.{arith}
 use borrow.Author.Tests.{lt-ltb}
 use lib.ListN.{drop}
 use Rattle.format.specs.Fields.{case_word, destination_at}
-use Rattle.blocks.specs.declared.Next.{Next}
-use Rattle.blocks.specs.declared.Next.TheVariants.{At, Ended}
+use Rattle.std.specs.Prelude.{Option, Some, None}
 use Rattle.blocks.specs.Control.{Machine, op_at}
 use Rattle.blocks.specs.Lists.{nested_lists}
 use Rattle.blocks.specs.Nesting.{accepts}
@@ -56,11 +55,11 @@ module _ (file rows : List ℕ) (e : Env) where
       rw (lt-ltb n most_instructions (inside 0 n c s refl))
       (by (step (machine_by file rows e) (row_in rows) n s).next refl (λ m h. rows_run left (suc c) m (after n s) h))
     where
-      by : (x : Next) → (step (machine_by file rows e) (row_in rows) n s).next ≡ x
+      by : (x : Option ℕ) → (step (machine_by file rows e) (row_in rows) n s).next ≡ x
           → ((m : ℕ) → StaysInside (suc c) m (after n s) → by_rows file rows e left (suc c) m (after n s) ≡ runs left (suc c) m (after n s))
           → follow (by_rows file rows e left (suc c)) (suc c) x (after n s) ≡ follow (runs left (suc c)) (suc c) x (after n s)
-      by (At m) q later = later m (λ k i d t there. inside (suc k) i d t (ap (λ (y : Next). follow (runs k (suc c)) (suc c) y (after n s)) q ∙ there))
-      by Ended q later = refl
+      by (Some m) q later = later m (λ k i d t there. inside (suc k) i d t (ap (λ (y : Option ℕ). follow (runs k (suc c)) (suc c) y (after n s)) q ∙ there))
+      by None q later = refl
 
 -- ---- The reading of an accepted program
 

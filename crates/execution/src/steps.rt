@@ -5,7 +5,7 @@ ghost use Rattle.sources.specs.Bank.{env_in};
 ghost use Rattle.execution.specs.Steps.{reached, by_rows};
 
 use crate::{Report, Stop};
-use blocks::{MOST_INSTRUCTIONS, Next};
+use blocks::MOST_INSTRUCTIONS;
 use machine::step::step;
 use sources::bank::Bank;
 
@@ -20,19 +20,16 @@ pub fn carry_out(
 ) -> Stop
     ensures { reached result (state registers.new memory.new) ≡ by_rows file.now rows.now (env_in bank.now) budget 0 0 (state registers.old memory.old) }
 {
-    let mut steps: u32 = 0;
     let mut n: usize = 0;
-    while steps < budget {
+    for steps in 0..budget {
         // Right rows lead to no such number.
         if MOST_INSTRUCTIONS <= n {
             return Stop::Halted(Report { steps }, n);
         }
-        let next = step(file, rows, n as u32, bank, registers, memory);
-        steps += 1;
-        match next {
-            Next::At(m) => n = m,
-            Next::Ended => return Stop::Ended(Report { steps }),
+        match step(file, rows, n as u32, bank, registers, memory) {
+            Some(next) => n = next,
+            None => return Stop::Ended(Report { steps: steps + 1 }),
         }
     }
-    Stop::Halted(Report { steps }, n)
+    Stop::Halted(Report { steps: budget }, n)
 }

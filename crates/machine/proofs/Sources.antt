@@ -5,24 +5,15 @@ use Rattle.destinations.specs.Destinations.{zeros}
 use Rattle.format.specs.Kinds.{first_source, form_of, sources}
 use Rattle.format.proofs.Ranges.{in_range}
 use Rattle.format.specs.Fields.{source_at}
-use Prim.Native.Nat.{◌*◌, ◌+◌, ◌-◌, ◌<◌, ◌≤◌, suc, zero, ℕ}
-use mathlib.Core.Path.{◌∙◌, ◌≡◌, ap, refl, sym}
+use Prim.Native.Nat.{◌*◌, ◌+◌, ◌<◌, ◌≤◌, suc, zero, ℕ}
+use mathlib.Core.Path.{◌∙◌, ◌≡◌, ap, refl}
 use mathlib.Core.Bool.{Bool, cond, false, true}
 use mathlib.Core.List.{List, [], ◌∷◌}
 use native.Mathlib.Omega.{arith}
 use borrow.Author.Tests.{lt-ltb}
 use lib.Dec.{leb, leb→le, ltb}
-use lib.ListN.{drop, drop_of_length-le, get_or, length, length-drop, set, take}
-use lib.Seq.{take_all}
+use lib.ListN.{get_or, set}
 use Rattle.format.specs.declared.fields.Source.{Source}
-
--- ---- parts of lent words
-
-pub rest_of : (l : List ℕ) (n : ℕ) → take (length l - n) (drop n l) ≡ drop n l
-rest_of l n = take_all (length l - n) (drop n l) (omega (arith, length-drop n l))
-
-pub past_rest : (l : List ℕ) (n : ℕ) → length l ≤ n → [] ≡ drop n l
-past_rest l n h = sym (drop_of_length-le l h)
 
 -- ---- all sources of a record: no kind has more than four; after k of them have been read, those from k on are still 0
 

@@ -25,8 +25,7 @@ use lib.Dec.{T, eqb}
 use lib.ListN.{drop, get_or}
 use lib.Seq.{get_or-drop}
 use Rattle.format.specs.declared.fields.Destination.{Destination}
-use Rattle.blocks.specs.declared.Next.{Next}
-use Rattle.blocks.specs.declared.Next.TheVariants.{At}
+use Rattle.std.specs.Prelude.{Option, Some}
 
 -- ---- the step
 
@@ -60,8 +59,8 @@ module _ (e : Env) (file rows : List ℕ) (n : ℕ) (r m : List ℕ) where
 
     -- ---- kinds with an effect
 
-    next_is : At (n + 1) ≡ At (suc n)
-    next_is = ap At (add-one n)
+    next_is : Some (n + 1) ≡ Some (suc n)
+    next_is = ap Some (add-one n)
 
     plain_kind : k < 0x71 → op_of k ≡ PLAIN
     plain_kind b = by_kind (λ o. o ≡ PLAIN) k low refl
@@ -82,11 +81,11 @@ module _ (e : Env) (file rows : List ℕ) (n : ℕ) (r m : List ℕ) where
         low CASE h = absurd (omega arith)
 
     pub data_step : (d : Destination) (o : List (List ℕ)) (q l : List ℕ) → k < 0x71 → d ≡ destination_at bytes 1 → o ≡ sources_of e r bytes
-        → state q l ≡ effect_of (family_of k) k d o (state r m) → stepped (At (n + 1)) q l ≡ here
+        → state q l ≡ effect_of (family_of k) k d o (state r m) → stepped (Some (n + 1)) q l ≡ here
     unfolding record_effect
     data_step d o q l b ed eo et =
         let same : state q l ≡ record_effect e bytes (state r m) = rw (← ek, ← ed, ← eo) et in
-        let whole : stepped (At (n + 1)) q l ≡ step_as PLAIN = cc next_is in
+        let whole : stepped (Some (n + 1)) q l ≡ step_as PLAIN = cc next_is in
         whole ∙ by_op PLAIN (plain_kind b)
 
     -- ---- kinds without one
@@ -97,11 +96,11 @@ module _ (e : Env) (file rows : List ℕ) (n : ℕ) (r m : List ℕ) where
         let none : family_of k ≡ NONE = same_family (family_of k) NONE (in_range quiet lo hi k q a b) in
         rw (← ek, none)
 
-    pub low_step : k < 0x10 → stepped (At (n + 1)) r m ≡ here
+    pub low_step : k < 0x10 → stepped (Some (n + 1)) r m ≡ here
     unfolding family_of
     low_step b =
         let same : state r m ≡ record_effect e bytes (state r m) = stays 0 0x10 tt (omega arith) b in
-        let whole : stepped (At (n + 1)) r m ≡ step_as PLAIN = cc (next_is, same) in
+        let whole : stepped (Some (n + 1)) r m ≡ step_as PLAIN = cc (next_is, same) in
         whole ∙ by_op PLAIN (plain_kind (omega arith))
 
     -- the words of CASEs are the immediates' that the machine reads
@@ -109,7 +108,7 @@ module _ (e : Env) (file rows : List ℕ) (n : ℕ) (r m : List ℕ) where
     unfolding case_word
     values_are immediates ei = rw ei
 
-    next_step : (o : List (List ℕ)) (immediates : List ℕ) (next : Next) → o ≡ sources_of e r bytes → 0x71 ≤ k → k < 0x100 → e.immediates ≡ word_in immediates
+    next_step : (o : List (List ℕ)) (immediates : List ℕ) (next : Option ℕ) → o ≡ sources_of e r bytes → 0x71 ≤ k → k < 0x100 → e.immediates ≡ word_in immediates
         → next ≡ comes_next (ops_of file (place_in rows)) (cases_of immediates file (place_in rows)) (row_in rows) (op_of k) (source_word o 0 0) n → stepped next r m ≡ here
     unfolding family_of
     next_step o immediates next eo a b ei en =
@@ -126,7 +125,7 @@ module _ (bank file rows : List ℕ) (n : ℕ) (r m : List ℕ) (p k : ℕ) (byt
     (ep : p ≡ place_in rows n) (eb : bytes ≡ drop p file) (ek : k ≡ get_or bytes 0 0)
     (o : List (List ℕ)) (eo : o ≡ sources_of (env_in bank) r bytes)
   where
-    pub next_by_bank : (immediates : List ℕ) (next : Next) → 0x71 ≤ k → k < 0x100 → immediates ≡ part bank 4224 1024
+    pub next_by_bank : (immediates : List ℕ) (next : Option ℕ) → 0x71 ≤ k → k < 0x100 → immediates ≡ part bank 4224 1024
         → next ≡ comes_next (ops_of file (place_in rows)) (cases_of immediates file (place_in rows)) (row_in rows) (op_of k) (source_word o 0 0) n
         → stepped next r m ≡ step (machine_of (env_in bank) file (place_in rows)) (row_in rows) n (state r m)
     next_by_bank immediates next a b ei en =

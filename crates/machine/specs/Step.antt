@@ -1,10 +1,9 @@
 -- One step: the machine that an instruction list is, for the run by the table (blocks' `step`).
 -- Assumes nothing.
-use Rattle.std.specs.Prelude.{ℕ, List, get_or, drop}
+use Rattle.std.specs.Prelude.{ℕ, List, get_or, drop, Option}
 use Rattle.format.specs.Fields.{destination_at, case_at}
 use Rattle.blocks.specs.Control.{Machine}
 use Rattle.blocks.specs.Run.{Step}
-use Rattle.blocks.specs.declared.Next.{Next}
 use Rattle.destinations.specs.Destinations.{State}
 use Rattle.effects.specs.Effect.{family_of, effect_of, state, x_of}
 use Rattle.sources.specs.Operands.{Env, kind_byte, sources_of}
@@ -32,5 +31,5 @@ machine_of e file place =
     }
 
 -- What a step leaves, as blocks' `step` has it.
-abbrev pub stepped : Next → List ℕ → List ℕ → Step State
+abbrev pub stepped : Option ℕ → List ℕ → List ℕ → Step State
 stepped next r m = record { next = next; state = state r m }

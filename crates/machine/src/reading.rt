@@ -22,9 +22,7 @@ pub fn read_sources(
 {
     let count = sources_of(kind) as usize;
     let first = first_source(kind) as usize;
-    let mut k: usize = 0;
-    while k < count {
+    for k in 0..count {
         sources[k] = read(source_at(bytes, first + 5 * k), bank, registers);
-        k += 1;
     }
 }

@@ -7,7 +7,6 @@ ghost use Rattle.sources.specs.Bank.{env_in};
 ghost use Rattle.machine.specs.Step.{machine_of, stepped};
 
 use crate::reading::read_sources;
-use blocks::Next;
 use effects::effect::effect;
 use readers::{byte_at, destination_at};
 use sequencer::next_after;
@@ -19,11 +18,7 @@ use sources::parts;
 fn bytes_from(file: &[u8], at: usize) -> &[u8]
     ensures { result.now ≡ drop at file.now }
 {
-    if at < file.len() {
-        &file[at..]
-    } else {
-        &file[..0]
-    }
+    &file[at.min(file.len())..]
 }
 
 // Carries out instruction n of the prepared rows.
@@ -34,7 +29,7 @@ pub fn step(
     bank: &Bank,
     registers: &mut [u32],
     memory: &mut [u32],
-) -> Next
+) -> Option<usize>
     ensures { stepped result registers.new memory.new ≡ step_of (machine_of (env_in bank.now) file.now (place_in rows.now)) (row_in rows.now) n (state registers.old memory.old) }
 {
     let after = n as usize + 1;
@@ -46,9 +41,9 @@ pub fn step(
     match kind {
         0x10..=0x70 => {
             effect(kind, destination_at(bytes, 1), &sources, registers, memory);
-            Next::At(after)
+            Some(after)
         }
         0x71..=0xff => next_after(file, rows, parts::immediates(bank), n, kind, x),
-        _ => Next::At(after),
+        _ => Some(after),
     }
 }

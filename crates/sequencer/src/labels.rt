@@ -10,27 +10,12 @@ use crate::prepared::{label_of, place_of};
 use blocks::{MOST_INSTRUCTIONS, control};
 use readers::{byte_at, case_word};
 
-// The instruction after m where that is the CASE of x, else 0. Its record begins at a place of the file with this kind.
-fn after_case(file: &[u8], immediates: &[u32], place: usize, kind: u8, x: u32, m: u32) -> usize
+// Whether the record at a place of the file, which has this kind, is the CASE of x.
+fn is_case(file: &[u8], immediates: &[u32], place: usize, kind: u8, x: u32) -> bool
     requires { kind ≡ get_or file.now place 0 }
-    ensures { result ≡ cond (is_case_at immediates.now file.now place x) (suc m) 0 }
+    ensures { result ≡ is_case_at immediates.now file.now place x }
 {
-    if kind == control::CASE {
-        if case_word(immediates, file, place) == x {
-            return m as usize + 1;
-        }
-    }
-    0
-}
-
-// The instruction after m where that has the kind of DEFAULT, else the other.
-fn after_default(kind: u8, m: u32, other: usize) -> usize
-    ensures { result ≡ cond (is DEFAULT (op_of kind)) (suc m) other }
-{
-    if kind == control::DEFAULT {
-        return m as usize + 1;
-    }
-    other
+    kind == control::CASE && case_word(immediates, file, place) == x
 }
 
 // The instruction that a SWITCH on x goes to: its first label and the instruction after its ENDSWITCH are given.
@@ -46,20 +31,19 @@ pub fn after_label(
 {
     let mut m = label;
     let mut other = jump;
-    let mut left = MOST_INSTRUCTIONS;
-    while 0 < left {
+    for _ in 0..MOST_INSTRUCTIONS {
         if m == 0 {
             return other;
         }
         let place = place_of(rows, m) as usize;
         let kind = byte_at(file, place);
-        let found = after_case(file, immediates, place, kind, x, m);
-        if found != 0 {
-            return found;
+        if is_case(file, immediates, place, kind, x) {
+            return m as usize + 1;
         }
-        other = after_default(kind, m, other);
+        if kind == control::DEFAULT {
+            other = m as usize + 1;
+        }
         m = label_of(rows, m);
-        left -= 1;
     }
     other
 }

@@ -9,28 +9,35 @@ ghost use Rattle.sequencer.specs.Labels.{ops_of, cases_of};
 
 use crate::labels::after_label;
 use crate::prepared::{jump_of, label_of};
-use blocks::{Next, control};
+use blocks::control;
 
 mod labels;
 pub mod prepared;
 
 // What comes next after instruction n, which has this kind, x being what a UIF or SWITCH looks at.
-pub fn next_after(file: &[u8], rows: &[u32], immediates: &[u32], n: u32, kind: u8, x: u32) -> Next
+pub fn next_after(
+    file: &[u8],
+    rows: &[u32],
+    immediates: &[u32],
+    n: u32,
+    kind: u8,
+    x: u32,
+) -> Option<usize>
     ensures { result ≡ comes_next (ops_of file.now (place_in rows.now)) (cases_of immediates.now file.now (place_in rows.now)) (row_in rows.now) (op_of kind) x n }
 {
     let after = n as usize + 1;
     match kind {
-        control::ELSE => Next::At(jump_of(rows, n) as usize),
-        control::ENDLOOP..=control::CONT => Next::At(jump_of(rows, n) as usize),
-        control::END => Next::Ended,
+        control::ELSE => Some(jump_of(rows, n) as usize),
+        control::ENDLOOP..=control::CONT => Some(jump_of(rows, n) as usize),
+        control::END => None,
         control::UIF => {
             if x == 0 {
-                Next::At(jump_of(rows, n) as usize)
+                Some(jump_of(rows, n) as usize)
             } else {
-                Next::At(after)
+                Some(after)
             }
         }
-        control::SWITCH => Next::At(after_label(
+        control::SWITCH => Some(after_label(
             file,
             rows,
             immediates,
@@ -38,6 +45,6 @@ pub fn next_after(file: &[u8], rows: &[u32], immediates: &[u32], n: u32, kind: u
             label_of(rows, n),
             jump_of(rows, n) as usize,
         )),
-        _ => Next::At(after),
+        _ => Some(after),
     }
 }

@@ -2,16 +2,14 @@
 -- Assumes nothing.
 use mathlib.Core.Path.{◌≡◌, refl, sym, ap, ◌∙◌, fun_ext}
 use mathlib.Core.Bool.{Bool, true, false, cond, ◌&&◌}
-use mathlib.Core.List.{List, [], ◌++◌, append-nil}
+use mathlib.Core.List.{List, [], ◌++◌}
 use Prim.Native.Nat.{ℕ, ◌+◌, ◌-◌, ◌/◌, ◌%◌, ◌<◌, ◌≤◌}
 use native.Mathlib.Omega.{arith}
 use native.Mathlib.Nat.{min-eq_left, min-le_left}
-use native.Mathlib.Numerals.{add-one}
 use borrow.Author.Tests.{ltb-true, ltb-false}
 use lib.Dec.{eqb, ltb}
-use Rattle.std.proofs.lemmas.List.{drop_all}
-use lib.ListN.{length, get_or, set, take, drop, replicate, length-replicate, length-take, get_or-replicate, get_or-append, get_or-eq_default}
-use lib.Seq.{get_or-append-add, get_or-drop, get_or-take, length-paste, length_paste_head, paste, paste-suc, paste-zero, take_all}
+use lib.ListN.{length, take, drop, replicate, length-replicate, length-take, get_or-replicate, get_or-append, get_or-eq_default}
+use lib.Seq.{get_or-append-add, get_or-drop, get_or-take, length-paste, length_paste_head, paste, take_all}
 use Rattle.words.specs.Word.{bit_in, is_set}
 use Rattle.sources.specs.Bank.{env_in, part, declared_in}
 use Rattle.sources.specs.Inner.Laid.{laid}
@@ -47,43 +45,6 @@ module _ (d : List ℕ) (at : ℕ) (s : List ℕ) (n : ℕ) (room : at + n ≤ l
       ∙ get_or-append-add (take at d ++ take n s) (drop (at + n) d) (k - (at + n)) 0
       ∙ get_or-drop (at + n) d (k - (at + n)) 0
       ∙ ap (word_in d) back
-
--- ---- The first words
-
-module _ (l : List ℕ) (n : ℕ) where
-  pub first_long : n < length l → n ≡ length (take n l)
-  first_long h = sym (length-take n l ∙ min-eq_left (omega arith))
-
-  pub first_words : (take n l ≡ take n l) × (length (take n l) ≤ n)
-  first_words = (refl, omega (arith, length-take n l, min-le_left n (length l)))
-
-  pub all_words : length l ≤ n → (l ≡ take n l) × (length l ≤ n)
-  all_words h = (sym (take_all n l h), h)
-
--- ---- Copying word by word
-
-module _ (d : List ℕ) (from : ℕ) (words : List ℕ) where
-  pub copy_none : d ≡ paste d from words 0
-  copy_none = paste-zero d from words
-
-  pub copy_more : (l : List ℕ) (i : ℕ) → length d ≡ 5288 → from + length words ≤ 5288 → i < length words → l ≡ paste d from words i
-      → set l (from + i) (get_or words i 0) ≡ paste d from words (i + 1)
-  copy_more l i long room h e =
-      ap (λ (q : List ℕ). set q (from + i) (get_or words i 0)) e
-      ∙ paste-suc d from words i 0 (omega arith) h
-      ∙ ap (paste d from words) (sym (add-one i))
-
-  pub copy_end : (l : List ℕ) (i : ℕ) → i ≤ length words → length words ≤ i → l ≡ paste d from words i → l ≡ paste d from words (length words)
-  copy_end l i a b e =
-      let all : i ≡ length words = omega arith in
-      e ∙ ap (paste d from words) all
-
--- ---- A bank that is made 0
-
-pub all_zero : (bank left : List ℕ) (i : ℕ) → length left ≡ 5288 → i ≤ 5288 → 5288 ≤ i → bank ≡ replicate i 0 ++ drop i left → bank ≡ replicate 5288 0
-all_zero bank left i long a b e =
-    let all : i ≡ 5288 = omega arith in
-    e ∙ ap (λ (n : ℕ). replicate n 0 ++ drop n left) all ∙ ap (λ (q : List ℕ). replicate 5288 0 ++ q) (drop_all 5288 left (omega arith)) ∙ append-nil (replicate 5288 0)
 
 -- ---- What a part of the bank holds
 
@@ -140,15 +101,6 @@ declared_same : (a b : List ℕ) → word_in a ≡ word_in b → declared_in a �
 unfolding declared_in bit_in
 declared_same a b h = ap declared_by h
 
--- ---- No more words than a part has room for
-
-module _ (l l' words first : List ℕ) (from most : ℕ) (ef : first ≡ take most words) (e : l' ≡ laid l from first) where
-  pub laid_first : l' ≡ laid l from (take most words)
-  laid_first = e ∙ ap (laid l from) ef
-
-  pub laid_room : length l ≡ 5288 → from + most ≤ 5288 → length first ≤ most → length l' ≡ 5288
-  laid_room long room few = ap length e ∙ laid_long l long from first (omega arith)
-
 -- ---- The bank
 
 module _ (immediates inputs constants bits b₁ b₂ b₃ b₄ : List ℕ)
@@ -173,16 +125,16 @@ module _ (immediates inputs constants bits b₁ b₂ b₃ b₄ : List ℕ)
     d = take 40 bits
 
     lc : length c ≤ 4096
-    lc = (first_words constants 4096).1
+    lc = omega (arith, length-take 4096 constants)
 
     li : length i ≤ 128
-    li = (first_words inputs 128).1
+    li = omega (arith, length-take 128 inputs)
 
     lm : length m ≤ 1024
-    lm = (first_words immediates 1024).1
+    lm = omega (arith, length-take 1024 immediates)
 
     ld : length d ≤ 40
-    ld = (first_words bits 40).1
+    ld = omega (arith, length-take 40 bits)
 
     l₀ : length none ≡ 5288
     l₀ = length-replicate {A = ℕ} 5288 0

@@ -3,78 +3,67 @@
 use Rattle.sources.specs.Bank.{env_in, part, declared_in}
 use Rattle.sources.specs.Operands.{Env, four_from, if_declared, negated, register_of, register_words, selected, source_of, taken, word_in}
 use Rattle.destinations.specs.Destinations.{components, zeros}
-use Rattle.words.specs.Word.{bit_in, neg, signed}
+use Rattle.words.specs.Word.{neg, signed}
 use Rattle.format.specs.Fields.{indirection, negates}
-use Prim.Native.Nat.{◌*◌, ◌+◌, ◌-◌, ◌/◌, ◌<◌, ◌^◌, ◌≤◌, suc, zero, ℕ}
+use Prim.Native.Nat.{◌*◌, ◌+◌, ◌/◌, ◌<◌, ◌^◌, suc, zero, ℕ}
 use mathlib.Core.Path.{◌∙◌, ◌≡◌, ap, refl, sym}
 use mathlib.Core.Bool.{Bool, cond, false, true}
 use mathlib.Core.List.{List, [], ◌∷◌}
 use native.Mathlib.Omega.{arith}
 use native.Mathlib.Nat.{mod-lt}
-use borrow.Author.Tests.{le-ltb, lt-ltb, ne_eqb}
+use borrow.Author.Tests.{ne_eqb}
 use lib.ListN.{get_or}
-use lib.IntN.{◌+ℤ◌, pos, sub_ℕ}
+use lib.IntN.{ℤ, ◌+ℤ◌, pos, negsuc}
+use Rattle.std.proofs.Common.{w32, ◌<ℤ◌, of_z, to_z, unsigned_abs}
+use Rattle.std.specs.Int.{FitsUnsigned}
+use Rattle.std.specs.Bool.{then_some}
+use Rattle.std.proofs.lemmas.Int.{ints}
+use Rattle.words.proofs.Signed.{by_sign, signed_low, signed_high}
 use Rattle.format.specs.declared.fields.Source.{Source}
-use Rattle.sources.specs.declared.operands.Place.{Place}
-use Rattle.sources.specs.declared.operands.Place.TheVariants.{Register, Nowhere}
-
--- ---- declared registers
-
-module _ (l : List ℕ) (f n : ℕ) where
-  pub declared_const : (t : Bool) → f ≡ 1 → n < 1024 → t ≡ bit_in l n → t ≡ declared_in l f n
-  unfolding declared_in
-  declared_const t h b e = rw (h, lt-ltb n 1024 b) e
-
-  pub declared_temp : (t : Bool) → f ≡ 4 → n < 256 → t ≡ bit_in l (1024 + n) → t ≡ declared_in l f n
-  unfolding declared_in
-  declared_temp t h b e = rw (h, lt-ltb n 256 b) e
-
-  pub past_consts : f ≡ 1 → 1024 ≤ n → false ≡ declared_in l f n
-  unfolding declared_in
-  past_consts h b = rw (h, le-ltb n 1024 b)
-
-  pub past_temps : f ≡ 4 → 256 ≤ n → false ≡ declared_in l f n
-  unfolding declared_in
-  past_temps h b = rw (h, le-ltb n 256 b)
-
-  pub other_file : (f ≡ 1 → ⊥) → (f ≡ 4 → ⊥) → false ≡ declared_in l f n
-  unfolding declared_in
-  other_file a b = simp (ne_eqb f 1 a, ne_eqb f 4 b)
-
-module _ (t u : Bool) (x y : Place) (e : t ≡ u) where
-  pub chosen : t ≡ true → x ≡ cond u x y
-  chosen h = rw (← e, h)
-
-  pub not_chosen : t ≡ false → y ≡ cond u x y
-  not_chosen h = rw (← e, h)
+use Rattle.std.specs.Prelude.{Option, Some, None}
 
 -- ---- index plus address
 
-module _ (d : ℕ → ℕ → Bool) (f i a : ℕ) where
-  pub indirect_up : (p : Place) → a < 2 ^ 31 → p ≡ if_declared d f (pos (i + a)) → p ≡ if_declared d f (pos i +ℤ signed 32 a)
-  unfolding signed
-  indirect_up p h e = simp (lt-ltb a (2 ^ 31) h) e
+-- The address read in two's complement, as the code converts it.
+signed_is : (a : ℕ) → a < 2 ^ 32 → to_z w32 (of_z w32 (to_z w32 a)) ≡ signed 32 a
+signed_is a fits =
+    by_sign 32 refl a
+    (λ low. rw (signed_low 32 refl a low) (omega (arith, ints)))
+    (λ high. rw (signed_high 32 refl a high fits) (grind (arith, ints)))
 
-  module _ (fits : a < 2 ^ 32) (h : 2 ^ 31 ≤ a) where
-    -- in the upper half the address stands for its distance below 2^32
-    minus : pos i +ℤ signed 32 a ≡ sub_ℕ i (4294967295 - a + 1)
-    unfolding signed
-    minus =
-        let s : suc (4294967296 - suc a) ≡ 4294967295 - a + 1 = omega arith in
-        simp (le-ltb a (2 ^ 31) h, lt-ltb a (2 ^ 32) fits) (ap (sub_ℕ i) s)
+module _ (d : ℕ → ℕ → Bool) (f : ℕ) where
+  no_sum : (z : ℤ) → z <ℤ pos (2 ^ 32) → ¬ FitsUnsigned w32 z → None ≡ if_declared d f z
+  no_sum (pos n) below none = absurd (none (omega (arith, ints), below))
+  no_sum (negsuc n) below none = refl
 
-    pub indirect_down : (p : Place) → 4294967295 - a + 1 ≤ i → p ≡ if_declared d f (pos (i - (4294967295 - a + 1))) → p ≡ if_declared d f (pos i +ℤ signed 32 a)
-    indirect_down p k e = rw minus (simp (le-ltb i (4294967295 - a + 1) k) e)
+  one_sum : (z : ℤ) (n : ℕ) → FitsUnsigned w32 z → n ≡ unsigned_abs z → then_some (d f n) n ≡ if_declared d f z
+  one_sum (pos m) n fits e = rw e (by (d f m))
+    where
+      by : (t : Bool) → then_some t m ≡ cond t (Some m) None
+      by true = refl
+      by false = refl
+  one_sum (negsuc m) n fits e = absurd (omega (arith, ints, fits.0))
 
-    pub indirect_negative : i < 4294967295 - a + 1 → Nowhere ≡ if_declared d f (pos i +ℤ signed 32 a)
-    indirect_negative k = rw minus (simp (lt-ltb i (4294967295 - a + 1) k))
+  -- The sum that the code makes of an index and an address.
+  module _ (i a x : ℕ) (z : ℤ) (index : i < 2 ^ 16) (fits : a < 2 ^ 32) (ex : x ≡ i) (ez : z ≡ to_z w32 a) where
+    abbrev sum : ℤ
+    sum = pos x +ℤ to_z w32 (of_z w32 z)
+
+    sum_is : sum ≡ pos i +ℤ signed 32 a
+    sum_is = rw (ex, ez, signed_is a fits)
+
+    pub indirect_none : ¬ FitsUnsigned w32 sum → None ≡ if_declared d f (pos i +ℤ signed 32 a)
+    indirect_none none = rw (← sum_is) (no_sum sum (omega (arith, ints)) none)
+
+    pub indirect_at : (n : ℕ) → FitsUnsigned w32 sum × (n ≡ unsigned_abs sum) → then_some (d f n) n ≡ if_declared d f (pos i +ℤ signed 32 a)
+    indirect_at n there = rw (← sum_is) (one_sum sum n there.0 there.1)
 
 module _ (s : Source) (k : ℕ) (ek : k ≡ indirection s) where
-  pub register_direct : (d : ℕ → ℕ → Bool) (r : List ℕ) → k ≡ 0 → Register s.index ≡ register_of d r s
+  pub register_direct : (d : ℕ → ℕ → Bool) (r : List ℕ) (n : ℕ) → k ≡ 0 → n ≡ s.index → Some n ≡ register_of d r s
   unfolding register_of
-  register_direct d r h = rw (← ek, h)
+  register_direct d r n h e = rw (← ek, h, e)
 
-  pub register_indirect : (l m r : List ℕ) (a : ℕ) (p : Place) → (k ≡ 0 → ⊥) → a ≡ get_or r (1151 + k) 0 → l ≡ m
+  pub register_indirect : (l m r : List ℕ) (a : ℕ) (p : Option ℕ) → (k ≡ 0 → ⊥) → a ≡ get_or r (1151 + k) 0 → l ≡ m
       → p ≡ if_declared (declared_in l) s.file (pos s.index +ℤ signed 32 a) → p ≡ register_of (declared_in m) r s
   unfolding register_of
   register_indirect l m r a p h ea el ep = rw (← ek, ne_eqb k 0 h, ← ea, ← el) ep
@@ -111,9 +100,6 @@ four_word word first (suc (suc (suc (suc i)))) b = absurd (omega arith)
 
 pub selected_below : (swizzle i k : ℕ) → k ≡ selected swizzle i → k < 4
 selected_below swizzle i k e = rw e (mod-lt (swizzle / 2 ^ (2 * i)) (omega arith))
-
-pub selected_word_is : (l : List ℕ) (first swizzle i k w : ℕ) → k ≡ selected swizzle i → w ≡ get_or l (first + k) 0 → w ≡ word_in l (first + selected swizzle i)
-selected_word_is l first swizzle i k w ek ew = ew ∙ ap (λ (n : ℕ). get_or l (first + n) 0) ek
 
 module _ (l : List ℕ) (first : ℕ) (s : Source) where
   -- component c of what the source takes
@@ -183,11 +169,11 @@ module _ (e : Env) (r : List ℕ) (s : Source) (n : ℕ) where
   pub register_none : (s.file ≡ 1 → ⊥) → (s.file ≡ 2 → ⊥) → (s.file ≡ 4 → ⊥) → (s.file ≡ 6 → ⊥) → zeros ≡ taken (register_words e r s.file n) s
   register_none a b c d = none_taken s ∙ ap (λ (q : List ℕ). taken q s) (no_words e r s.file n a b c d)
 
-module _ (e : Env) (r : List ℕ) (s : Source) (p : Place) (ep : p ≡ register_of e.declared r s) where
-  pub source_nowhere : p ≡ Nowhere → zeros ≡ source_of e r s
+module _ (e : Env) (r : List ℕ) (s : Source) where
+  pub source_nowhere : None ≡ register_of e.declared r s → zeros ≡ source_of e r s
   unfolding source_of
-  source_nowhere h = rw (← ep, h)
+  source_nowhere h = rw (← h)
 
-  pub source_register : (n : ℕ) (v : List ℕ) → p ≡ Register n → v ≡ taken (register_words e r s.file n) s → v ≡ source_of e r s
+  pub source_register : (n : ℕ) → Some n ≡ register_of e.declared r s → (v : List ℕ) → v ≡ taken (register_words e r s.file n) s → v ≡ source_of e r s
   unfolding source_of
-  source_register n v h ev = rw (← ep, h) ev
+  source_register n h v ev = rw (← h) ev

@@ -1,14 +1,12 @@
 -- Operands: what a source reads (01, "Register files", "Instruction corners").
 -- Assumes nothing.
-use Rattle.std.specs.Prelude.{ℕ, ◌+◌, ◌-◌, ◌*◌, ◌/◌, ◌%◌, ◌^◌, Bool, cond, List, [], ◌∷◌, ltb, eqb, get_or, ℤ, pos, negsuc, ◌+ℤ◌}
+use Rattle.std.specs.Prelude.{ℕ, ◌+◌, ◌-◌, ◌*◌, ◌/◌, ◌%◌, ◌^◌, Bool, cond, List, [], ◌∷◌, ltb, eqb, get_or, ℤ, pos, negsuc, ◌+ℤ◌, Option, Some, None}
 use Rattle.words.specs.Word.{neg, signed}
 use Rattle.format.specs.Files.{CONST, IN, TEMP, IMM, temp_from, addr_from}
 use Rattle.format.specs.Kinds.{form_of, sources, source_place}
 use Rattle.format.specs.Fields.{source_at, negates, indirection}
 use Rattle.format.specs.declared.fields.Source.{Source}
 use Rattle.destinations.specs.Destinations.{components, zeros}
-use Rattle.sources.specs.declared.operands.Place.{Place}
-use Rattle.sources.specs.declared.operands.Place.TheVariants.{Register, Nowhere}
 
 -- ---- what is lent to be read
 
@@ -50,13 +48,14 @@ register_words e r f n =
 
 -- "An indirect index is index plus ADDR as a signed number; a negative or undeclared sum reads 0." (01, Instruction corners)
 -- "indirect 0 for none or 1 to 4 for ADDR[0].x to .w" (01, The program file); "ADDR from 1152"
-abbrev pub if_declared : (ℕ → ℕ → Bool) → ℕ → ℤ → Place
-if_declared declared f (pos n) = cond (declared f n) (Register n) Nowhere
-if_declared declared f (negsuc n) = Nowhere
+abbrev pub if_declared : (ℕ → ℕ → Bool) → ℕ → ℤ → Option ℕ
+if_declared declared f (pos n) = cond (declared f n) (Some n) None
+if_declared declared f (negsuc n) = None
 
-unfoldable pub register_of : (ℕ → ℕ → Bool) → List ℕ → Source → Place
+-- The number of the register that a source names, if it names one.
+unfoldable pub register_of : (ℕ → ℕ → Bool) → List ℕ → Source → Option ℕ
 register_of declared r s =
-    cond (eqb (indirection s) 0) (Register s.index)
+    cond (eqb (indirection s) 0) (Some s.index)
     (if_declared declared s.file (pos s.index +ℤ signed 32 (word_in r (addr_from - 1 + indirection s))))
 
 -- "swizzle 1 (two bits per component, x lowest)" (01, The program file): component i is taken from this one.
@@ -71,9 +70,9 @@ negated s w = cond (negates s) (neg 32 w) w
 unfoldable pub taken : List ℕ → Source → List ℕ
 taken words s = components (λ i. negated s (word_in words (selected s.swizzle i)))
 
-abbrev pub taken_at : Env → List ℕ → Source → Place → List ℕ
-taken_at e r s (Register n) = taken (register_words e r s.file n) s
-taken_at e r s Nowhere = zeros
+abbrev pub taken_at : Env → List ℕ → Source → Option ℕ → List ℕ
+taken_at e r s (Some n) = taken (register_words e r s.file n) s
+taken_at e r s None = zeros
 
 -- What a source reads.
 unfoldable pub source_of : Env → List ℕ → Source → List ℕ

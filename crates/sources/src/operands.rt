@@ -12,65 +12,36 @@ use format::fields::{Source, indirection, negates};
 use format::files::{ADDR_FROM, CONST, IMM, IN, TEMP, TEMP_FROM};
 use words::sums::neg32;
 
-// The register that a source names, or none.
-#[derive(Clone, Copy)]
-pub enum Place {
-    Register(u32),
-    Nowhere,
-}
-
 // Whether a CONST or TEMP register is declared.
+#[tactic(auto, unfolding(crate::specs::Bank::declared_in))]
 fn is_declared(declared: &[u32], file: u8, n: u32) -> bool
     ensures { result ≡ declared_in declared.now file n }
 {
-    if file == CONST {
-        if n < 1024 {
-            return bit_in(declared, n as usize);
-        }
-    } else if file == TEMP {
-        if n < 256 {
-            return bit_in(declared, 1024 + n as usize);
-        }
-    }
-    false
-}
-
-fn declared_place(declared: &[u32], file: u8, n: u32) -> Place
-    ensures { result ≡ if_declared (declared_in declared.now) file (pos n) }
-{
-    if is_declared(declared, file, n) {
-        Place::Register(n)
-    } else {
-        Place::Nowhere
+    match file {
+        CONST => n < 1024 && bit_in(declared, n as usize),
+        TEMP => n < 256 && bit_in(declared, 1024 + n as usize),
+        _ => false,
     }
 }
 
-// Index plus address as a signed number.
-fn indirect(declared: &[u32], file: u8, index: u16, address: u32) -> Place
+// Index plus address as a signed number, if that is a declared register's.
+fn indirect(declared: &[u32], file: u8, index: u16, address: u32) -> Option<u32>
     ensures { result ≡ if_declared (declared_in declared.now) file (pos index +ℤ signed 32 address) }
 {
-    let i = index as u32;
-    if address < 0x8000_0000 {
-        return declared_place(declared, file, i + address);
-    }
-    let back = (u32::MAX - address) + 1;
-    if back <= i {
-        declared_place(declared, file, i - back)
-    } else {
-        Place::Nowhere
-    }
+    let n = u32::from(index).checked_add_signed(address.cast_signed())?;
+    is_declared(declared, file, n).then_some(n)
 }
 
-fn register_of(s: Source, bank: &Bank, registers: &[u32]) -> Place
+// The register that a source names, if it names one.
+fn register_of(s: Source, bank: &Bank, registers: &[u32]) -> Option<u32>
     ensures { result ≡ register_of (env_in bank.now).declared registers.now s }
 {
     let component = indirection(s);
     if component == 0 {
-        Place::Register(s.index as u32)
-    } else {
-        let address = word_at(registers, ADDR_FROM as usize - 1 + component as usize);
-        indirect(parts::declared(bank), s.file, s.index, address)
+        return Some(u32::from(s.index));
     }
+    let address = word_at(registers, ADDR_FROM as usize - 1 + component as usize);
+    indirect(parts::declared(bank), s.file, s.index, address)
 }
 
 fn select(swizzle: u8, i: u8) -> u8
@@ -109,8 +80,7 @@ fn pick_register(n: u32, s: Source, bank: &Bank, registers: &[u32]) -> [u32; 4]
     ensures { result ≡ taken (register_words (env_in bank.now) registers.now s.file n) s }
 {
     let first = 4 * n as usize;
-    let file = s.file;
-    match file {
+    match s.file {
         CONST => pick(parts::constants(bank), first, s),
         IN => pick(parts::inputs(bank), first, s),
         TEMP => pick(registers, TEMP_FROM as usize + first, s),
@@ -123,9 +93,8 @@ fn pick_register(n: u32, s: Source, bank: &Bank, registers: &[u32]) -> [u32; 4]
 pub fn read(s: Source, bank: &Bank, registers: &[u32]) -> [u32; 4]
     ensures { result ≡ source_of (env_in bank.now) registers.now s }
 {
-    let place = register_of(s, bank, registers);
-    match place {
-        Place::Register(n) => pick_register(n, s, bank, registers),
-        Place::Nowhere => [0, 0, 0, 0],
+    match register_of(s, bank, registers) {
+        Some(n) => pick_register(n, s, bank, registers),
+        None => [0, 0, 0, 0],
     }
 }

@@ -7,27 +7,23 @@ use crate::bank::{BANK_WORDS, Bank, CONST_AT, DECLARED_AT, IMM_AT, IN_AT};
 pub fn constants(bank: &Bank) -> &[u32]
     ensures { result.now ≡ part bank.now 0 4096 }
 {
-    let words = &bank[..];
-    &words[CONST_AT..IN_AT]
+    &bank[CONST_AT..IN_AT]
 }
 
 pub fn inputs(bank: &Bank) -> &[u32]
     ensures { result.now ≡ part bank.now 4096 128 }
 {
-    let words = &bank[..];
-    &words[IN_AT..IMM_AT]
+    &bank[IN_AT..IMM_AT]
 }
 
 pub fn immediates(bank: &Bank) -> &[u32]
     ensures { result.now ≡ part bank.now 4224 1024 }
 {
-    let words = &bank[..];
-    &words[IMM_AT..DECLARED_AT]
+    &bank[IMM_AT..DECLARED_AT]
 }
 
 pub fn declared(bank: &Bank) -> &[u32]
     ensures { result.now ≡ part bank.now 5248 40 }
 {
-    let words = &bank[..];
-    &words[DECLARED_AT..BANK_WORDS]
+    &bank[DECLARED_AT..BANK_WORDS]
 }

@@ -1,5 +1,5 @@
 -- The loop over steps: what is left to do comes to what the whole comes to.
-use Rattle.std.proofs.Common.{◌≡◌, ◌-◌, ◌≤◌}
+use Rattle.std.proofs.Common.{◌≡◌, ◌-◌}
 use Rattle.effects.specs.Effect.{state}
 use Rattle.sources.specs.Bank.{env_in}
 use Rattle.execution.specs.Steps.{by_rows}
@@ -7,11 +7,5 @@ use Rattle.execution.proofs.steps.carry_out.Given as goal
 
 abbrev pub invariant-loop-steps : goal.invariant-loop-steps
 invariant-loop-steps l =
-    record {
-      within : l.steps ≤ l.budget;
-      same : by_rows l.file l.rows (env_in l.bank) (l.budget - l.steps) l.steps l.n (state l.registers l.memory)
-          ≡ by_rows l.file l.rows (env_in l.bank) l.budget 0 0 (state l.initial.registers l.initial.memory);
-    }
-
-abbrev pub decreases-loop-steps : goal.decreases-loop-steps
-decreases-loop-steps l = l.budget - l.steps
+    by_rows l.file l.rows (env_in l.bank) (l.budget - l.steps) l.steps l.n (state l.registers l.memory)
+    ≡ by_rows l.file l.rows (env_in l.bank) l.budget 0 0 (state l.initial.registers l.initial.memory)

@@ -2,9 +2,8 @@
 use Rattle.sources.proofs.Sources.{source_nowhere, source_register}
 use Rattle.sources.proofs.operands.read.Goals as goal
 
-pub returns-in-Register : goal.returns-in-Register
-returns-in-Register c =
-    source_register _ _ _ _ c.register_of-place.ensures _ _ c.in-Register.is c.pick_register.ensures
+pub returns-in-Some : goal.returns-in-Some
+returns-in-Some c = source_register _ _ _ _ c.in-Some.ensures _ c.pick_register.ensures
 
-pub returns-in-Nowhere : goal.returns-in-Nowhere
-returns-in-Nowhere c = source_nowhere _ _ _ _ c.register_of-place.ensures c.in-Nowhere.is
+pub returns-in-None : goal.returns-in-None
+returns-in-None c = source_nowhere _ _ _ c.in-None.ensures
