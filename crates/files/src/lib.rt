@@ -5,13 +5,14 @@
 mod reading;
 mod reasons;
 
-ghost use Rattle.std.specs.Prelude.{◌≤◌};
+ghost use Rattle.std.specs.Prelude.{◌≤◌, IfSome};
 ghost use Rattle.io.specs.Counts.{IsPrefixLen};
 
-pub use reading::{FAILED, Read, fill, open, text_of};
-pub use reasons::fail;
+pub use reading::{fill, open, text_of};
+pub use reasons::{fail, ok_or_told};
 use std::env::{Env, FillError};
 use std::io;
+use std::ops::Range;
 
 // As many bytes as the longest name that the system takes, and the 0 that ends it.
 pub const NAME_ROOM: usize = 4096;
@@ -21,28 +22,18 @@ const NO_WORD: i32 = 22;
 
 const NAME_TOO_LONG: i32 = 36;
 
-// Bytes at the start of a buffer, and how many more the file has.
+// How many bytes lie at the start of a buffer, and how many more the file has.
 #[derive(Clone, Copy)]
 pub struct Start {
-    pub whole: bool,
     pub count: usize,
     pub rest: u64,
 }
-
-const NO_START: Start = Start {
-    whole: false,
-    count: 0,
-    rest: 0,
-};
 
 // Whether the program was started with an argument of this number; its own name is number 0.
 pub fn is_given(rt: &impl Env, argument: usize) -> bool
     ensures { Unit {0} }
 {
-    match rt.arg(argument, &mut []) {
-        Ok(_) | Err(FillError::TooLong) => true,
-        Err(FillError::NotPresent) => false,
-    }
+    !matches!(rt.arg(argument, &mut []), Err(FillError::NotPresent))
 }
 
 // Whether the first argument asks for help.
@@ -53,6 +44,26 @@ pub fn is_help_asked_for(rt: &impl Env) -> bool
     match rt.arg(1, &mut word) {
         Ok(n) => matches!(&word[..n], b"--help" | b"-h"),
         Err(_) => false,
+    }
+}
+
+// Runs a program that takes so many arguments. Where the first one asks for help that is written instead, and where they are fewer or more
+// it is written on standard error.
+pub fn run_or_help<F: FnOnce(&HostRuntime) -> Option<()>>(
+    rt: &HostRuntime,
+    arguments: Range<usize>,
+    help: &str,
+    run: F,
+)
+    requires { F.IsAlwaysCallable run }
+    ensures { Unit {0} }
+{
+    if is_help_asked_for(rt) {
+        let _ = rt.write_all(help.as_bytes());
+    } else if !is_given(rt, arguments.start) || is_given(rt, arguments.end) {
+        let _ = rt.stderr().write_all(help.as_bytes());
+    } else {
+        let _ = run(rt);
     }
 }
 
@@ -72,65 +83,54 @@ fn reason(error: FillError) -> io::Error {
 }
 
 // Puts the name that an argument gives at the start of a buffer. One that does not fit is no name.
-pub fn name_of(rt: &HostRuntime, argument: usize, title: &[u8], path: &mut [u8]) -> Read
-    ensures { IsPrefixLen result.count path.new }
+pub fn name_of(rt: &HostRuntime, argument: usize, title: &[u8], path: &mut [u8]) -> Option<usize>
+    ensures { IfSome result (λ n. IsPrefixLen n path.new) }
 {
-    match rt.arg(argument, path) {
-        Ok(count) => Read { whole: true, count },
-        Err(error) => {
-            fail(rt, title, &reason(error));
-            FAILED
-        }
-    }
+    ok_or_told(rt, title, rt.arg(argument, path).map_err(reason))
 }
 
 // Puts a file at the start of a buffer, as much of it as fits.
-fn read_named(rt: &HostRuntime, path: &[u8], buffer: &mut [u8]) -> Read
-    ensures { IsPrefixLen result.count buffer.new }
+fn read_named(rt: &HostRuntime, path: &[u8], buffer: &mut [u8]) -> Option<usize>
+    ensures { IfSome result (λ n. IsPrefixLen n buffer.new) }
 {
-    match reading::open(rt, path) {
-        Some(mut file) => reading::fill(rt, &mut file, path, buffer),
-        None => FAILED,
-    }
+    let mut file = reading::open(rt, path)?;
+    reading::fill(rt, &mut file, path, buffer)
 }
 
 // The same of the file that an argument names.
-pub fn read_bytes(rt: &HostRuntime, argument: usize, title: &[u8], buffer: &mut [u8]) -> Read
-    ensures { IsPrefixLen result.count buffer.new }
+pub fn read_bytes(
+    rt: &HostRuntime,
+    argument: usize,
+    title: &[u8],
+    buffer: &mut [u8],
+) -> Option<usize>
+    ensures { IfSome result (λ n. IsPrefixLen n buffer.new) }
 {
     let mut path = [0u8; NAME_ROOM];
-    let name = name_of(rt, argument, title, &mut path);
-    if !name.whole {
-        return FAILED;
-    }
-    let n = name.count;
+    let n = name_of(rt, argument, title, &mut path)?;
     read_named(rt, &path[..n], buffer)
 }
 
 // As much of an open file as fits into a buffer, with what follows counted.
-fn start_of<F: io::Read>(rt: &HostRuntime, file: &mut F, path: &[u8], buffer: &mut [u8]) -> Start
-    ensures within { IsPrefixLen result.count buffer.new }
-    ensures rest { result.rest ≤ 9223372036854775808 }
+fn start_of<F: io::Read>(
+    rt: &HostRuntime,
+    file: &mut F,
+    path: &[u8],
+    buffer: &mut [u8],
+) -> Option<Start>
+    ensures within { IfSome result (λ start. IsPrefixLen start.count buffer.new) }
+    ensures rest { IfSome result (λ start. start.rest ≤ 9223372036854775808) }
 {
-    let read = reading::fill(rt, file, path, buffer);
-    if !read.whole {
-        return NO_START;
-    }
-    let rest = reading::rest_of(rt, file, path);
-    Start {
-        whole: rest.whole,
-        count: read.count,
-        rest: rest.bytes,
-    }
+    let count = reading::fill(rt, file, path, buffer)?;
+    let rest = reading::rest_of(rt, file, path)?;
+    Some(Start { count, rest })
 }
 
 // The same of a file by its name.
-pub fn start_named(rt: &HostRuntime, path: &[u8], buffer: &mut [u8]) -> Start
-    ensures within { IsPrefixLen result.count buffer.new }
-    ensures rest { result.rest ≤ 9223372036854775808 }
+pub fn start_named(rt: &HostRuntime, path: &[u8], buffer: &mut [u8]) -> Option<Start>
+    ensures within { IfSome result (λ start. IsPrefixLen start.count buffer.new) }
+    ensures rest { IfSome result (λ start. start.rest ≤ 9223372036854775808) }
 {
-    match reading::open(rt, path) {
-        Some(mut file) => start_of(rt, &mut file, path, buffer),
-        None => NO_START,
-    }
+    let mut file = reading::open(rt, path)?;
+    start_of(rt, &mut file, path, buffer)
 }

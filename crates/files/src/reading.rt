@@ -1,30 +1,11 @@
 // Reading a file to its end. Each read's answer is looked at, so a read that fails is never taken for the end.
-ghost use Rattle.std.specs.Prelude.{◌≡◌, ◌≤◌, MatchOption};
+ghost use Rattle.std.specs.Prelude.{◌≡◌, ◌≤◌, IfSome, MatchOption};
 ghost use Rattle.std.specs.Str.{IsUtf8};
 ghost use Rattle.io.specs.Counts.{IsPrefixLen};
 
-use crate::reasons::fail;
+use crate::reasons::{fail, ok_or_told};
 use std::fs::File;
 use std::io;
-
-// Whether no read failed, and how many bytes or words there are. Where one failed, a line has said why.
-#[derive(Clone, Copy)]
-pub struct Read {
-    pub whole: bool,
-    pub count: usize,
-}
-
-pub const FAILED: Read = Read {
-    whole: false,
-    count: 0,
-};
-
-// What follows what was read, passed over and counted.
-#[derive(Clone, Copy)]
-pub struct Rest {
-    pub whole: bool,
-    pub bytes: u64,
-}
 
 // More reads of 65,536 bytes than any file takes: 2^47.
 const TURNS: u64 = 140737488355328;
@@ -50,74 +31,61 @@ pub fn open(rt: &HostRuntime, path: &[u8]) -> Option<File>
     ensures { Unit {0} }
 {
     let name = text_of(rt, path)?;
-    match File::open(rt, name) {
-        Ok(file) => Some(file),
-        Err(error) => {
-            fail(rt, path, &error);
-            None
-        }
-    }
+    ok_or_told(rt, path, File::open(rt, name))
 }
 
 // One read, of no bytes at the file's end only.
-fn read_some<F: io::Read>(rt: &HostRuntime, file: &mut F, path: &[u8], part: &mut [u8]) -> Read
-    ensures { IsPrefixLen result.count part.new }
+fn read_some<F: io::Read>(
+    rt: &HostRuntime,
+    file: &mut F,
+    path: &[u8],
+    part: &mut [u8],
+) -> Option<usize>
+    ensures { IfSome result (λ n. IsPrefixLen n part.new) }
 {
-    match file.read(part) {
-        Ok(count) => Read { whole: true, count },
-        Err(error) => {
-            fail(rt, path, &error);
-            FAILED
-        }
-    }
+    ok_or_told(rt, path, file.read(part))
 }
 
 // Reads into a buffer until it is full or the file ends.
-pub fn fill<F: io::Read>(rt: &HostRuntime, file: &mut F, path: &[u8], buffer: &mut [u8]) -> Read
-    ensures { IsPrefixLen result.count buffer.new }
+pub fn fill<F: io::Read>(
+    rt: &HostRuntime,
+    file: &mut F,
+    path: &[u8],
+    buffer: &mut [u8],
+) -> Option<usize>
+    ensures { IfSome result (λ n. IsPrefixLen n buffer.new) }
 {
     let mut count = 0;
     while count < buffer.len() {
-        let more = read_some(rt, file, path, &mut buffer[count..]);
-        if !more.whole {
-            return FAILED;
+        let more = read_some(rt, file, path, &mut buffer[count..])?;
+        if more == 0 {
+            break;
         }
-        if more.count == 0 {
-            return Read { whole: true, count };
-        }
-        count += more.count;
+        count += more;
     }
-    Read { whole: true, count }
+    Some(count)
 }
 
 // Passes over some bytes, over none at the file's end only.
-fn pass_over<F: io::Read>(rt: &HostRuntime, file: &mut F, path: &[u8]) -> Read
-    ensures { result.count ≤ 65536 }
+fn pass_over<F: io::Read>(rt: &HostRuntime, file: &mut F, path: &[u8]) -> Option<usize>
+    ensures { IfSome result (λ n. n ≤ 65536) }
 {
     let mut bytes = [0u8; 65536];
     read_some(rt, file, path, &mut bytes)
 }
 
-// Passes over all that is left of a file. A proved loop ends, and nothing says that a file does: a file that goes on after TURNS
-// reads is not whole.
-pub fn rest_of<F: io::Read>(rt: &HostRuntime, file: &mut F, path: &[u8]) -> Rest
-    ensures { result.bytes ≤ 9223372036854775808 }
+// Passes over all that is left of a file, and counts it. A proved loop ends, and nothing says that a file does: of one that goes on after
+// TURNS reads there is no count.
+pub fn rest_of<F: io::Read>(rt: &HostRuntime, file: &mut F, path: &[u8]) -> Option<u64>
+    ensures { IfSome result (λ n. n ≤ 9223372036854775808) }
 {
     let mut bytes = 0;
-    let mut turns = TURNS;
-    while turns > 0 {
-        let more = pass_over(rt, file, path);
-        if more.count == 0 {
-            return Rest {
-                whole: more.whole,
-                bytes,
-            };
+    for _ in 0..TURNS {
+        let more = pass_over(rt, file, path)?;
+        if more == 0 {
+            return Some(bytes);
         }
-        bytes += more.count as u64;
-        turns -= 1;
+        bytes += more as u64;
     }
-    Rest {
-        whole: false,
-        bytes,
-    }
+    None
 }

@@ -1,4 +1,7 @@
 // Lines on standard error: what failed, and why in the system's words. No contract can say what is written.
+ghost use Rattle.std.specs.Prelude.{◌≡◌};
+ghost use Rattle.std.specs.Result.{result_ok};
+
 use std::io;
 use std::io::{Cursor, Write};
 
@@ -32,4 +35,11 @@ pub fn fail(rt: &HostRuntime, what: &[u8], error: &io::Error)
     let text = str::from_utf8(&bytes).unwrap_or("");
     let words = without_number(text).trim_end_matches('\0');
     line(rt, what, b": ", words.as_bytes());
+}
+
+// The value of what went well, or none after a line that says what failed, and why.
+pub fn ok_or_told<T>(rt: &HostRuntime, what: &[u8], answer: io::Result<T>) -> Option<T>
+    ensures { result ≡ result_ok answer }
+{
+    answer.inspect_err(|error| fail(rt, what, error)).ok()
 }

@@ -1,55 +1,56 @@
-// Program files, put together record by record. Each function writes at a place and answers the place after what it wrote; what
-// does not fit into the file is left out.
+// Program files, put together record by record.
+use std::io::{Cursor, Write};
 
-fn put(file: &mut [u8], at: usize, byte: u8) -> usize {
-    if at < file.len() {
-        file[at] = byte;
-        at + 1
-    } else {
-        at
+// One byte more than a file may have.
+pub const ROOM: usize = 65537;
+
+// The file so far. What does not fit is left out.
+#[derive(Drop)]
+pub struct Builder {
+    bytes: Cursor<[u8; ROOM]>,
+}
+
+impl Builder {
+    pub fn new() -> Builder {
+        Builder {
+            bytes: Cursor::new([0; ROOM]),
+        }
     }
-}
 
-// Records, one after another.
-fn append(file: &mut [u8], at: usize, records: &[u8]) -> usize {
-    let mut place = at;
-    for byte in records {
-        place = put(file, place, *byte);
+    // Records, one after another.
+    fn append(&mut self, records: &[u8]) {
+        let _ = self.bytes.write(records);
     }
-    place
-}
 
-// The same records so many times.
-pub fn repeat(file: &mut [u8], at: usize, records: &[u8], times: u32) -> usize {
-    let mut place = at;
-    for _ in 0..times {
-        place = append(file, place, records);
+    // The same records so many times.
+    pub fn repeat(&mut self, records: &[u8], times: u32) {
+        for _ in 0..times {
+            self.append(records);
+        }
     }
-    place
-}
 
-// So many immediates, each of four words 1.
-pub fn immediates(file: &mut [u8], at: usize, times: u32) -> usize {
-    let record = b"\x02\x01\x00\x00\x00\x01\x00\x00\x00\x01\x00\x00\x00\x01\x00\x00\x00";
-    repeat(file, at, record, times)
-}
-
-pub fn end(file: &mut [u8], at: usize) -> usize {
-    put(file, at, 0x89)
-}
-
-// The declaration of one register.
-fn declare(file: &mut [u8], at: usize, register_file: u8, index: u16) -> usize {
-    let low = (index % 256) as u8;
-    let high = (index / 256) as u8;
-    append(file, at, &[0x01, register_file, low, high, low, high])
-}
-
-// A declaration of its own for each of so many registers of a file, from register 0 on.
-pub fn declare_each(file: &mut [u8], at: usize, register_file: u8, registers: u16) -> usize {
-    let mut place = at;
-    for index in 0..registers {
-        place = declare(file, place, register_file, index);
+    // So many immediates, each of four words 1.
+    pub fn immediates(&mut self, times: u32) {
+        let record = b"\x02\x01\x00\x00\x00\x01\x00\x00\x00\x01\x00\x00\x00\x01\x00\x00\x00";
+        self.repeat(record, times);
     }
-    place
+
+    // A declaration of its own for each of so many registers of a file, from register 0 on.
+    pub fn declare_each(&mut self, register_file: u8, registers: u16) {
+        for index in 0..registers {
+            let [low, high] = index.to_le_bytes();
+            self.append(&[0x01, register_file, low, high, low, high]);
+        }
+    }
+
+    // The whole file, its last record END.
+    pub fn end(&mut self) -> &[u8] {
+        self.append(b"\x89");
+        self.file()
+    }
+
+    pub fn file(&self) -> &[u8] {
+        let length = ROOM.min(self.bytes.position() as usize);
+        &self.bytes.get_ref()[..length]
+    }
 }

@@ -13,55 +13,35 @@ pub struct Lent {
     pub memory: usize,
 }
 
-// So many words of each sort.
-pub fn words(
-    inputs: usize,
-    constants: usize,
-    registers: usize,
-    work: usize,
-    memory: usize,
-) -> Lent {
-    Lent {
-        inputs,
-        constants,
-        registers,
-        work,
-        memory,
-    }
-}
-
 // As many words as any program can ask for, and as much memory as a run takes.
-pub fn most() -> Lent {
-    words(128, 4096, 1156, 3072, 16384)
-}
+pub const MOST: Lent = Lent {
+    inputs: 128,
+    constants: 4096,
+    registers: 1156,
+    work: 3072,
+    memory: 16384,
+};
 
 // The first n words, or all of them where there are fewer.
-fn first(words: &[u32], n: usize) -> &[u32] {
-    if n < words.len() { &words[..n] } else { words }
-}
-
-fn first_of(words: &mut [u32], n: usize) -> &mut [u32] {
-    if n < words.len() {
-        &mut words[..n]
-    } else {
-        words
-    }
+fn first(words: &mut [u32], n: usize) -> &mut [u32] {
+    let n = n.min(words.len());
+    &mut words[..n]
 }
 
 // Runs a file over lent words that are all 0.
 pub fn run(file: &[u8], lent: Lent) -> Outcome {
-    let inputs = [0u32; 128];
-    let constants = [0u32; 4096];
+    let mut inputs = [0u32; 128];
+    let mut constants = [0u32; 4096];
     let mut registers = [0u32; 1156];
     let mut work = [0u32; 3072];
     let mut memory = [0u32; 16385];
     runner::run(
         file,
-        first(&inputs, lent.inputs),
-        first(&constants, lent.constants),
-        first_of(&mut registers, lent.registers),
-        first_of(&mut work, lent.work),
-        first_of(&mut memory, lent.memory),
+        first(&mut inputs, lent.inputs),
+        first(&mut constants, lent.constants),
+        first(&mut registers, lent.registers),
+        first(&mut work, lent.work),
+        first(&mut memory, lent.memory),
         BUDGET,
     )
 }

@@ -3,37 +3,25 @@
 // from a run.
 #![tactic(auto)]
 
-use lent::{Lent, words};
+use build::{Builder, ROOM};
+use lent::{Lent, MOST};
 
 mod build;
 mod lent;
 
-// One byte more than a file may have.
-const ROOM: usize = 65537;
-
 // `NAME N: `, and what the run of a file comes to.
-fn case(rt: &impl Print, name: &[u8], n: usize, file: &[u8], lent: Lent) {
-    report::text(rt, name);
-    report::next_number(rt, n as u64);
-    report::text(rt, b": ");
+fn case(rt: &impl Print, name: &str, n: usize, file: &[u8], lent: Lent) {
+    let _ = print!(rt; "{name} {n}: ");
     outcomes::outcome_line(rt, lent::run(file, lent));
 }
 
-// The same of a file that fills the first bytes of a buffer, lent as many words as any program can ask for.
-fn file_case(rt: &impl Print, name: &[u8], n: usize, buffer: &[u8], length: usize) {
-    if length <= buffer.len() {
-        case(rt, name, n, &buffer[..length], lent::most());
-    }
-}
-
 // An immediate, blocks inside each other, so deep, and END.
-fn depth(rt: &impl Print, name: &[u8], opening: &[u8], closing: &[u8], deep: u32) {
-    let mut file = [0u8; ROOM];
-    let mut at = build::immediates(&mut file, 0, 1);
-    at = build::repeat(&mut file, at, opening, deep);
-    at = build::repeat(&mut file, at, closing, deep);
-    at = build::end(&mut file, at);
-    file_case(rt, name, deep as usize, &file, at);
+fn depth(rt: &impl Print, name: &str, opening: &[u8], closing: &[u8], deep: u32) {
+    let mut file = Builder::new();
+    file.immediates(1);
+    file.repeat(opening, deep);
+    file.repeat(closing, deep);
+    case(rt, name, deep as usize, file.end(), MOST);
 }
 
 // "At most 16 are open." With 16: each block's opening is a step, and each block has one more, ENDIF, BRK (which goes past
@@ -43,28 +31,26 @@ fn depth(rt: &impl Print, name: &[u8], opening: &[u8], closing: &[u8], deep: u32
 fn depths(rt: &impl Print) {
     let uif = b"\x90\x06\x00\x00\x00\x00";
     let switch = b"\x91\x06\x00\x00\x00\x00\x92\x06\x00\x00\x00\x00";
-    depth(rt, b"UIF depth", uif, b"\x82", 16);
-    depth(rt, b"UIF depth", uif, b"\x82", 17);
-    depth(rt, b"loop depth", b"\x83", b"\x85\x84", 16);
-    depth(rt, b"loop depth", b"\x83", b"\x85\x84", 17);
-    depth(rt, b"SWITCH depth", switch, b"\x88", 16);
-    depth(rt, b"SWITCH depth", switch, b"\x88", 17);
+    depth(rt, "UIF depth", uif, b"\x82", 16);
+    depth(rt, "UIF depth", uif, b"\x82", 17);
+    depth(rt, "loop depth", b"\x83", b"\x85\x84", 16);
+    depth(rt, "loop depth", b"\x83", b"\x85\x84", 17);
+    depth(rt, "SWITCH depth", switch, b"\x88", 16);
+    depth(rt, "SWITCH depth", switch, b"\x88", 17);
 }
 
 // So many NOPs, and END.
 fn instructions(rt: &impl Print, nops: u32) {
-    let mut file = [0u8; ROOM];
-    let mut at = build::repeat(&mut file, 0, b"\x80", nops);
-    at = build::end(&mut file, at);
-    file_case(rt, b"instructions", nops as usize + 1, &file, at);
+    let mut file = Builder::new();
+    file.repeat(b"\x80", nops);
+    case(rt, "instructions", nops as usize + 1, file.end(), MOST);
 }
 
 // So many immediates, and END.
 fn immediates(rt: &impl Print, n: u32) {
-    let mut file = [0u8; ROOM];
-    let mut at = build::immediates(&mut file, 0, n);
-    at = build::end(&mut file, at);
-    file_case(rt, b"immediates", n as usize, &file, at);
+    let mut file = Builder::new();
+    file.immediates(n);
+    case(rt, "immediates", n as usize, file.end(), MOST);
 }
 
 // "6: 1,025th instruction or 257th immediate". 1,023 NOPs and END are 1,024 steps. With one NOP more END is the 1,025th
@@ -81,17 +67,14 @@ fn counts(rt: &impl Print) {
 fn longest_accepted(rt: &impl Print) {
     let bfi =
         b"\x70\x04\x00\x00\x0f\x06\x00\x00\xe4\x00\x06\x00\x00\xe4\x00\x06\x00\x00\xe4\x00\x06\x00\x00\xe4\x00";
-    let mut file = [0u8; ROOM];
-    let mut at = build::declare_each(&mut file, 0, 1, 1024);
-    at = build::declare_each(&mut file, at, 2, 32);
-    at = build::declare_each(&mut file, at, 3, 32);
-    at = build::declare_each(&mut file, at, 4, 256);
-    at = build::declare_each(&mut file, at, 5, 1);
-    at = build::declare_each(&mut file, at, 7, 1);
-    at = build::immediates(&mut file, at, 256);
-    at = build::repeat(&mut file, at, bfi, 1023);
-    at = build::end(&mut file, at);
-    file_case(rt, b"longest accepted, bytes", at, &file, at);
+    let mut file = Builder::new();
+    for (register_file, registers) in [(1, 1024), (2, 32), (3, 32), (4, 256), (5, 1), (7, 1)] {
+        file.declare_each(register_file, registers);
+    }
+    file.immediates(256);
+    file.repeat(bfi, 1023);
+    let bytes = file.end();
+    case(rt, "longest accepted, bytes", bytes.len(), bytes, MOST);
 }
 
 // "1: file over 65,536 bytes". No file of 65,536 bytes is accepted: the longest that is has 1,346 declarations of 6 bytes,
@@ -99,14 +82,13 @@ fn longest_accepted(rt: &impl Print) {
 // that this length is not refused as such: it gets 6 at its 1,025th instruction, place 1,024, and one of 65,537 gets 1 at 0.
 fn lengths(rt: &impl Print) {
     longest_accepted(rt);
-    let mut file = [0u8; ROOM];
-    let at = build::repeat(&mut file, 0, b"\x80", 65537);
-    file_case(rt, b"bytes", 65536, &file, 65536);
-    file_case(rt, b"bytes", 65537, &file, at);
+    let nops = [0x80; ROOM];
+    case(rt, "bytes", 65536, &nops[..65536], MOST);
+    case(rt, "bytes", 65537, &nops, MOST);
 }
 
 // Declarations of IN[31] and CONST[1023], and END: one instruction.
-fn lent_case(rt: &impl Print, name: &[u8], n: usize, lent: Lent) {
+fn lent_case(rt: &impl Print, name: &str, n: usize, lent: Lent) {
     let program = b"\x01\x02\x1f\x00\x1f\x00\x01\x01\xff\x03\xff\x03\x89";
     case(rt, name, n, program, lent);
 }
@@ -115,31 +97,48 @@ fn lent_case(rt: &impl Print, name: &[u8], n: usize, lent: Lent) {
 // words under 3 per instruction; memory over 16,384 words." The program asks for 128, 4,096, 1,156 and 3 words, and with
 // enough of each it ends in 1 step.
 fn lent_words(rt: &impl Print) {
-    let enough = words(128, 4096, 1156, 3, 16384);
-    lent_case(rt, b"inputs, words", 128, enough);
-    lent_case(rt, b"inputs, words", 127, words(127, 4096, 1156, 3, 16384));
-    lent_case(rt, b"constants, words", 4096, enough);
+    let enough = Lent { work: 3, ..MOST };
+    lent_case(rt, "inputs, words", 128, enough);
     lent_case(
         rt,
-        b"constants, words",
+        "inputs, words",
+        127,
+        Lent {
+            inputs: 127,
+            ..enough
+        },
+    );
+    lent_case(rt, "constants, words", 4096, enough);
+    lent_case(
+        rt,
+        "constants, words",
         4095,
-        words(128, 4095, 1156, 3, 16384),
+        Lent {
+            constants: 4095,
+            ..enough
+        },
     );
-    lent_case(rt, b"registers, words", 1156, enough);
+    lent_case(rt, "registers, words", 1156, enough);
     lent_case(
         rt,
-        b"registers, words",
+        "registers, words",
         1155,
-        words(128, 4096, 1155, 3, 16384),
+        Lent {
+            registers: 1155,
+            ..enough
+        },
     );
-    lent_case(rt, b"working words", 3, enough);
-    lent_case(rt, b"working words", 2, words(128, 4096, 1156, 2, 16384));
-    lent_case(rt, b"memory, words", 16384, enough);
+    lent_case(rt, "working words", 3, enough);
+    lent_case(rt, "working words", 2, Lent { work: 2, ..enough });
+    lent_case(rt, "memory, words", 16384, enough);
     lent_case(
         rt,
-        b"memory, words",
+        "memory, words",
         16385,
-        words(128, 4096, 1156, 3, 16385),
+        Lent {
+            memory: 16385,
+            ..enough
+        },
     );
 }
 

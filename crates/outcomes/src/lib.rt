@@ -9,15 +9,10 @@ pub fn outcome_line(rt: &impl Print, outcome: Outcome)
 {
     match outcome {
         Outcome::Ended(told) => {
-            report::text(rt, b"ended");
-            report::next_number(rt, told.steps as u64);
-            report::line_end(rt);
+            let _ = println!(rt; "ended {}", told.steps);
         }
         Outcome::Halted(told, next) => {
-            report::text(rt, b"halted");
-            report::next_number(rt, told.steps as u64);
-            report::next_number(rt, next as u64);
-            report::line_end(rt);
+            let _ = println!(rt; "halted {} {next}", told.steps);
         }
         Outcome::Refused(number, place) => report::refusal_line(rt, number, place as u64),
     }

@@ -6,38 +6,25 @@ use text::output::Filled;
 
 mod help;
 
-fn write(rt: &HostRuntime, listing: &[u8]) {
-    if let Err(error) = rt.write_all(listing) {
-        files::fail(rt, b"standard output", &error);
-    }
-}
-
 // No listing of a file of 65,536 bytes is longer: a byte comes to at most four, "255" and a space or a line feed.
-fn list(rt: &HostRuntime, program: &[u8]) {
+fn list(rt: &HostRuntime, program: &[u8]) -> Option<()> {
     let mut listing = [0u8; 262144];
-    let answer = listing::print(program, &mut listing);
-    match answer {
-        Filled::Wrote(n) => write(rt, &listing[..n]),
-        Filled::Refused(number, place) => report::refusal_lines(rt, number, place as u64),
+    match listing::print(program, &mut listing) {
+        Filled::Wrote(n) => files::ok_or_told(rt, b"standard output", rt.write_all(&listing[..n])),
+        Filled::Refused(number, place) => {
+            report::refusal_lines(rt, number, place as u64);
+            None
+        }
     }
 }
 
-// Reads the program, one byte more than a file may have, and lists it.
-fn list_named(rt: &HostRuntime) {
+// Reads the program, one byte more than a file may have, and lists it. None: a line has said what is wrong.
+fn list_named(rt: &HostRuntime) -> Option<()> {
     let mut program = [0u8; 65537];
-    let p = files::read_bytes(rt, 1, b"program", &mut program);
-    if p.whole {
-        let n = p.count;
-        list(rt, &program[..n]);
-    }
+    let n = files::read_bytes(rt, 1, b"program", &mut program)?;
+    list(rt, &program[..n])
 }
 
 fn main(rt: HostRuntime) {
-    if files::is_help_asked_for(&rt) {
-        help::write(&rt);
-    } else if !files::is_given(&rt, 1) || files::is_given(&rt, 2) {
-        help::write(&rt.stderr());
-    } else {
-        list_named(&rt);
-    }
+    files::run_or_help(&rt, 1..2, help::TEXT, list_named);
 }

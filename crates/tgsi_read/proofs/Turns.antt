@@ -5,24 +5,16 @@ use mathlib.Core.Logic.{◌⊎◌, ⊎_elim}
 use mathlib.Core.List.{List, [], ◌++◌, append_assoc}
 use Prim.Native.Nat.{ℕ, ◌+◌, ◌-◌, ◌^◌, ◌≤◌, ◌<◌}
 use native.Mathlib.Omega.{arith}
-use native.Mathlib.Nat.{sub-zero}
 use lib.ListN.{length, take, drop, length-drop}
 use lib.Seq.{sets, sets-eq, take_at, length-take-le}
+use Rattle.std.specs.Prelude.{Result, Ok, Err}
 use Rattle.text.specs.Output.{refusal, written}
 use Rattle.listing.specs.Pieces.{piece_of}
 use Rattle.listing.specs.declared.pieces.Piece.{Piece}
 use Rattle.listing.specs.Calls.{read_of}
 use Rattle.listing.proofs.InPieces.{malformed_within, lines_within, Reached, reached_next, told_malformed, told_unended, told_too_long, nothing_by}
 use Rattle.tgsi_read.specs.Inner.Turns.{turn_of}
-use Rattle.tgsi_read.specs.declared.pieces.Turn.{Turn}
-
--- What is due of the case that a piece is.
-pub due : (case : Piece) (piece : List ℕ) (r : Piece) (place : ℕ) → r ≡ piece_of piece → r ≡ case → turn_of place case ≡ turn_of place (piece_of piece)
-due case piece r place e is = ap (turn_of place) (sym is ∙ e)
-
-pub due_at : (case : ℕ → Piece) (n : ℕ) (piece : List ℕ) (r : Piece) (place : ℕ) → r ≡ piece_of piece → r ≡ case n
-    → turn_of place (case n) ≡ turn_of place (piece_of piece)
-due_at case n = due (case n)
+use Rattle.tgsi_read.specs.declared.pieces.Due.{Due}
 
 module _ (text : List ℕ) (count : ℕ) (within : count ≤ length text) where
   pub piece_counted : count ≡ length (take count text)
@@ -47,39 +39,33 @@ module _ (text : List ℕ) (count : ℕ) (within : count ≤ length text) where
           rw (there, append_assoc rest (drop (0 + length rest) (take count text)) left)
           (take_at rest (drop (0 + length rest) (take count text) ++ left) (count - n) size)
 
-pub all_kept : (text : List ℕ) (count : ℕ) → take (count - 0) text ≡ take count text
-all_kept text count = rw (sub-zero count)
-
 -- ---- A turn and the whole listing: the piece is reached, and r is the answer
 
-module _ (text piece rest : List ℕ) (place : ℕ) (so : Reached text piece rest place) (r : Turn) (e : r ≡ turn_of place (piece_of piece)) where
-  number_is : (f : Piece) → piece_of piece ≡ f → r.number ≡ (turn_of place f).number
-  number_is f is = ap (λ (t : Turn). t.number) (e ∙ ap (turn_of place) is)
-
-  -- Nothing is due: with what is kept of the piece, and more, the listing is reached as many bytes further as are passed.
-  pub turn_next : r.number ≡ 0 → (kept more left : List ℕ) → kept ≡ drop r.passed piece → rest ≡ more ++ left
-      → Reached text (kept ++ more) left (place + r.passed)
-  turn_next none kept more left ek er = by (piece_of piece) refl where
-    by : (f : Piece) → piece_of piece ≡ f → Reached text (kept ++ more) left (place + r.passed)
-    by (Piece.Malformed at) is = absurd (omega (arith, none, number_is (Piece.Malformed at) is))
-    by Piece.Nothing is = absurd (omega (arith, none, number_is Piece.Nothing is))
-    by Piece.Unended is = absurd (omega (arith, none, number_is Piece.Unended is))
-    by (Piece.Lines n) is =
-        let passed : r.passed ≡ n = ap (λ (t : Turn). t.passed) (e ∙ ap (turn_of place) is) in
-        rw (ek, passed) (reached_next text piece rest place so n more left is er)
+module _ (text piece rest : List ℕ) (place : ℕ) (so : Reached text piece rest place) (r : Result ℕ Due) (e : r ≡ turn_of place (piece_of piece)) where
+  -- Bytes are passed: with what is kept of the piece, and more, the listing is reached as many bytes further.
+  pub turn_next : (n : ℕ) → r ≡ Ok n → (kept more left : List ℕ) → kept ≡ drop n piece → rest ≡ more ++ left
+      → Reached text (kept ++ more) left (place + n)
+  turn_next n passed kept more left ek er = by (piece_of piece) refl (sym e ∙ passed) where
+    by : (f : Piece) → piece_of piece ≡ f → turn_of place f ≡ Ok n → Reached text (kept ++ more) left (place + n)
+    by (Piece.Malformed at) is clash = absurd cc
+    by Piece.Nothing is clash = absurd cc
+    by Piece.Unended is clash = absurd cc
+    by (Piece.Lines m) is same =
+        let those : m ≡ n = cc in
+        rw ek (reached_next text piece rest place so n more left (is ∙ ap Piece.Lines those) er)
 
   -- A refusal is due: it is what reading the whole listing answers, if the piece fills its buffer or the listing ends with it.
   module _ (enough : (rest ≡ []) ⊎ (511 < length piece)) (long : 262144 < length text) (output : List ℕ) where
-    pub turn_told : (r.number ≡ 0 → ⊥) → read_of text output ≡ written (refusal r.number r.place) output
-    turn_told some = by (piece_of piece) refl where
-      at_turn : (f : Piece) → piece_of piece ≡ f → read_of text output ≡ written (refusal (turn_of place f).number (turn_of place f).place) output
-          → read_of text output ≡ written (refusal r.number r.place) output
-      at_turn f is told = told ∙ ap (λ (t : Turn). written (refusal t.number t.place) output) (sym (e ∙ ap (turn_of place) is))
+    pub turn_told : (due : Due) → r ≡ Err due → read_of text output ≡ written (refusal due.number due.place) output
+    turn_told due refused = by (piece_of piece) refl (sym e ∙ refused) where
+      at_due : (t : Result ℕ Due) (d : Due) → t ≡ Err d → t ≡ Err due → read_of text output ≡ written (refusal d.number d.place) output
+          → read_of text output ≡ written (refusal due.number due.place) output
+      at_due t d is same told = let those : d ≡ due = cc in told ∙ ap (λ (x : Due). written (refusal x.number x.place) output) those
 
-      by : (f : Piece) → piece_of piece ≡ f → read_of text output ≡ written (refusal r.number r.place) output
-      by (Piece.Malformed at) is = at_turn (Piece.Malformed at) is (told_malformed text piece rest place so at is output)
-      by Piece.Unended is = at_turn Piece.Unended is (told_unended text piece rest place so is enough output)
-      by (Piece.Lines n) is = absurd (some (number_is (Piece.Lines n) is))
-      by Piece.Nothing is =
+      by : (f : Piece) → piece_of piece ≡ f → turn_of place f ≡ Err due → read_of text output ≡ written (refusal due.number due.place) output
+      by (Piece.Malformed at) is same = at_due _ _ refl same (told_malformed text piece rest place so at is output)
+      by Piece.Unended is same = at_due _ _ refl same (told_unended text piece rest place so is enough output)
+      by (Piece.Lines n) is clash = absurd cc
+      by Piece.Nothing is same =
           let last : rest ≡ [] = ⊎_elim (λ none. none) (λ full. absurd (omega (arith, full, ap length (nothing_by piece is)))) enough in
-          at_turn Piece.Nothing is (told_too_long text piece rest place so is last long output)
+          at_due _ _ refl same (told_too_long text piece rest place so is last long output)

@@ -2,7 +2,7 @@
 // where there is none, with 1 at 0, the file that it gives being too long. So it is read on in pieces. By `reached_start` (listing),
 // `turn_next` and `turn_told` (proofs/Turns.antt) the turns' refusal is that of the whole listing, if each piece fills the buffer or the
 // listing ends with it; that the loop reads so no contract can say, since none says what a file holds.
-ghost use Rattle.std.specs.Prelude.{◌≡◌, ◌≤◌, ◌+◌, ◌-◌, length, take, drop};
+ghost use Rattle.std.specs.Prelude.{◌≡◌, ◌≤◌, ◌+◌, ◌-◌, IfOk, MatchResult, length, take, drop};
 ghost use Rattle.listing.specs.Pieces.{piece_of};
 ghost use Rattle.tgsi_read.specs.Inner.Turns.{turn_of};
 
@@ -15,45 +15,37 @@ use text::output::move_to_front;
 // does.
 const TURNS: u64 = 36000000000000;
 
-// The number of the refusal that is due, and its place; or 0, and how many bytes are passed.
+// The refusal that is due of a listing.
 #[derive(Clone, Copy)]
-struct Turn {
+struct Due {
     number: u8,
     place: u64,
-    passed: usize,
 }
 
-// The first bytes of a buffer, so many, are a piece that starts at a place of the listing. Reads the lines that end in it, and moves what
-// follows them to the front.
-fn take_turn(text: &mut [u8], count: usize, place: u64) -> Turn
+// The first bytes of a buffer, so many, are a piece that starts at a place of the listing. Reads the lines that end in it, moves what
+// follows them to the front, and answers how many bytes are passed.
+fn take_turn(text: &mut [u8], count: usize, place: u64) -> Result<usize, Due>
     requires { (count ≤ length text.old) × (place + count ≤ 18446744073709551615) }
     ensures due { result ≡ turn_of place (piece_of (take count text.old)) }
-    ensures kept { take (count - result.passed) text.new ≡ drop result.passed (take count text.old) }
-    ensures within { result.passed ≤ count }
+    ensures kept { MatchResult result (λ n. take (count - n) text.new ≡ drop n (take count text.old)) (λ _. text.new ≡ text.old) }
+    ensures within { IfOk result (λ n. n ≤ count) }
 {
     match listing::read_piece(&text[..count]) {
-        Piece::Malformed(at) => Turn {
+        Piece::Malformed(at) => Err(Due {
             number: MALFORMED_LINE,
             place: place + at as u64,
-            passed: 0,
-        },
-        Piece::Nothing => Turn {
+        }),
+        Piece::Nothing => Err(Due {
             number: TOO_LONG,
             place: 0,
-            passed: 0,
-        },
-        Piece::Unended => Turn {
+        }),
+        Piece::Unended => Err(Due {
             number: MALFORMED_LINE,
             place,
-            passed: 0,
-        },
+        }),
         Piece::Lines(n) => {
             move_to_front(&mut text[..count], n);
-            Turn {
-                number: 0,
-                place: 0,
-                passed: n,
-            }
+            Ok(n)
         }
     }
 }
@@ -64,21 +56,17 @@ pub fn refuse<F: io::Read>(rt: &HostRuntime, file: &mut F, path: &[u8], text: &m
 {
     let mut place: u64 = 0;
     let mut count = text.len();
-    let mut turns = TURNS;
-    while turns > 0 {
-        let turn = take_turn(text, count, place);
-        if turn.number != 0 {
-            report::refusal_lines(rt, turn.number, turn.place);
+    for _ in 0..TURNS {
+        let passed = match take_turn(text, count, place) {
+            Ok(passed) => passed,
+            Err(due) => return report::refusal_lines(rt, due.number, due.place),
+        };
+        place += passed as u64;
+        count -= passed;
+        let Some(more) = files::fill(rt, file, path, &mut text[count..]) else {
             return;
-        }
-        place += turn.passed as u64;
-        count -= turn.passed;
-        let more = files::fill(rt, file, path, &mut text[count..]);
-        if !more.whole {
-            return;
-        }
-        count += more.count;
-        turns -= 1;
+        };
+        count += more;
     }
     files::fault_line(rt, path, b": does not end");
 }

@@ -21,19 +21,7 @@ fn is_link(rt: &HostRuntime, name: &str) -> bool {
 // A pipe or a terminal has no position, and a device such as /dev/null nothing to put on a disk. Neither call changes the file, its time
 // included; a disk itself passes both.
 fn is_regular(file: &mut File) -> bool {
-    if file.seek(SeekFrom::End(0)).is_err() {
-        return false;
-    }
-    file.sync_all().is_ok()
-}
-
-// Whether a name that did not open is free. Where it is not, a line gives the system's reason.
-fn is_free(rt: &HostRuntime, name: &str, error: &io::Error) -> bool {
-    let free = error.kind() == ErrorKind::NotFound;
-    if !free {
-        files::fail(rt, name.as_bytes(), error);
-    }
-    free
+    file.seek(SeekFrom::End(0)).is_ok() && file.sync_all().is_ok()
 }
 
 // Opens a file that is there for writing, and leaves its bytes as they are.
@@ -49,25 +37,26 @@ fn open_new(rt: &HostRuntime, name: &str) -> io::Result<File> {
         .open(rt, name)
 }
 
-// Whether a name is free or a regular file's that may be written. Where it is neither, a line says so.
-fn can_be_taken(rt: &HostRuntime, name: &str) -> bool {
-    if name.is_empty() {
-        files::fault_line(rt, b"output", b": no name");
-        return false;
-    }
+// A name can be taken that is free or a regular file's that may be written.
+fn can_be_taken(rt: &HostRuntime, name: &str) -> io::Result<()> {
     if is_link(rt, name) {
-        files::fault_line(rt, name.as_bytes(), b": a link, not a regular file");
-        return false;
+        return Err(io::Error::other("a link, not a regular file"));
     }
     match open_to_update(rt, name) {
         Ok(mut file) => {
-            let regular = is_regular(&mut file);
-            if !regular {
-                files::fault_line(rt, name.as_bytes(), b": not a regular file");
+            if is_regular(&mut file) {
+                Ok(())
+            } else {
+                Err(io::Error::other("not a regular file"))
             }
-            regular
         }
-        Err(error) => is_free(rt, name, &error),
+        Err(error) => {
+            if error.kind() == ErrorKind::NotFound {
+                Ok(())
+            } else {
+                Err(error)
+            }
+        }
     }
 }
 
@@ -78,34 +67,20 @@ fn write_to_disk(mut file: File, bytes: &[u8]) -> io::Result<()> {
     file.sync_all()
 }
 
-// Makes a file of these bytes, and answers whether it is whole. Where it is not, a line says why.
-fn make(rt: &HostRuntime, name: &str, bytes: &[u8]) -> bool {
-    let file = match open_new(rt, name) {
-        Ok(file) => file,
-        Err(error) => {
-            files::fail(rt, name.as_bytes(), &error);
-            return false;
-        }
-    };
-    if let Err(error) = write_to_disk(file, bytes) {
-        files::fail(rt, name.as_bytes(), &error);
-        let _ = fs::remove_file(rt, name);
-        return false;
+// What went well with a part, or none after a line that says what failed, and without the part.
+fn ok_or_removed(rt: &HostRuntime, what: &str, part: &str, answer: io::Result<()>) -> Option<()> {
+    let done = files::ok_or_told(rt, what.as_bytes(), answer);
+    if done.is_none() {
+        let _ = fs::remove_file(rt, part);
     }
-    true
+    done
 }
 
-// Makes a file by another name, and gives it the name.
-fn replace(rt: &HostRuntime, name: &str, part: &str, bytes: &[u8]) -> bool {
-    if !make(rt, part, bytes) {
-        return false;
-    }
-    if let Err(error) = fs::rename(rt, part, name) {
-        files::fail(rt, name.as_bytes(), &error);
-        let _ = fs::remove_file(rt, part);
-        return false;
-    }
-    true
+// Makes a part of these bytes, and gives it the name. Where that fails, a line says why, and there is no part.
+fn replace(rt: &HostRuntime, name: &str, part: &str, bytes: &[u8]) -> Option<()> {
+    let file = files::ok_or_told(rt, part.as_bytes(), open_new(rt, part))?;
+    ok_or_removed(rt, part, part, write_to_disk(file, bytes))?;
+    ok_or_removed(rt, name, part, fs::rename(rt, part, name))
 }
 
 // A name with `.part` after it, and zeros.
@@ -118,21 +93,16 @@ fn part_of(name: &str) -> [u8; ROOM]
     part
 }
 
-// Writes bytes to the file that an argument names, and answers whether that went well. Where it did not, a line says why, and what the
-// name stood for is as it was.
-pub fn save(rt: &HostRuntime, argument: usize, bytes: &[u8]) -> bool {
+// Writes bytes to the file that an argument names. Where that does not go well, a line says why, and what the name stood for is as it was.
+pub fn save(rt: &HostRuntime, argument: usize, bytes: &[u8]) -> Option<()> {
     let mut path = [0u8; NAME_ROOM];
-    let given = files::name_of(rt, argument, b"output", &mut path);
-    if !given.whole {
-        return false;
+    let n = files::name_of(rt, argument, b"output", &mut path)?;
+    let name = files::text_of(rt, &path[..n])?;
+    if name.is_empty() {
+        files::fault_line(rt, b"output", b": no name");
+        return None;
     }
-    let n = given.count;
-    let Some(name) = files::text_of(rt, &path[..n]) else {
-        return false;
-    };
-    if !can_be_taken(rt, name) {
-        return false;
-    }
+    files::ok_or_told(rt, name.as_bytes(), can_be_taken(rt, name))?;
     let bytes_of_part = part_of(name);
     let end = name.len() + 5;
     let part = str::from_utf8(&bytes_of_part[..end]).unwrap();

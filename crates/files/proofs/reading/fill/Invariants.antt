@@ -1,10 +1,10 @@
--- The count stays within the buffer, which keeps its length; the measure is the room that is left.
+-- The count stays within the buffer; the measure is the room that is left.
 -- Assumes nothing.
-use Rattle.std.proofs.Common.{length, ◌-◌, ◌≤◌, ◌≡◌}
+use Rattle.std.proofs.Common.{length, ◌-◌, ◌≤◌}
 use Rattle.files.proofs.reading.fill.Given as goal
 
 abbrev pub invariant-loop-count : goal.invariant-loop-count
-invariant-loop-count g l = (l.count ≤ length l.buffer) × (length l.buffer ≡ length l.initial.buffer)
+invariant-loop-count g l = l.count ≤ length l.buffer
 
 abbrev pub decreases-loop-count : goal.decreases-loop-count
 decreases-loop-count g l = length l.buffer - l.count

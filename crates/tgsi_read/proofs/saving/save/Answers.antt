@@ -6,4 +6,4 @@ use Rattle.tgsi_read.proofs.saving.save.Goals as goal
 
 pub unwrap-part-requires : goal.unwrap-part-requires
 unwrap-part-requires c =
-    is_read _ _ _ _ (ended_text c.in-Some.name.now _ (rw c.in-Some.ensures.0 c.in-Some.ensures.1) (c.part_of-bytes_of_part.ensures (grind arith))) c.from_utf8.ensures.cases
+    is_read _ _ _ _ (ended_text c.in_ok-name.name.now _ (rw c.in_ok-name.ensures.0 c.in_ok-name.ensures.1) (c.part_of-bytes_of_part.ensures (grind arith))) c.from_utf8.ensures.cases
