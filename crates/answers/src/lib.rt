@@ -2,15 +2,15 @@
 #![tactic(auto)]
 
 ghost use Rattle.std.specs.Prelude.{◌≡◌};
+ghost use Rattle.format.specs.Refusals.{number_of};
 ghost use Rattle.checker.specs.Check.{told};
-ghost use Rattle.preparation.specs.Preparing.{prepare_answer};
 ghost use Rattle.runner.specs.Answers.{run_answer};
 ghost use Rattle.text.specs.Output.{answered};
 ghost use Rattle.answers.specs.Words.{words, told_words, answer_of, in_word, filled_words, part_of};
 
 use format::records::Bounds;
-use runner::{Outcome, Prepared, Verdict};
-use text::output::Filled;
+use format::refusals::{Refusal, Refused};
+use runner::Outcome;
 
 // Status 0: done, with the number of instructions (check and prepare), of steps (run) or of bytes written (print and read)
 // first. 1: halted, with the steps first and the next instruction's number second. 2: refused, with the refusal's number first
@@ -47,48 +47,42 @@ fn done(count: u32) -> Answer
     }
 }
 
-fn refused(number: u8, place: u32) -> Answer
-    ensures { result ≡ words 2 number place }
+fn refused(refusal: Refusal, place: u32) -> Answer
+    ensures { result ≡ words 2 (number_of refusal) place }
 {
     Answer {
         status: REFUSED,
-        first: number as u32,
+        first: refusal.number() as u32,
         second: place,
     }
 }
 
-// What `check` answered, in words.
-pub fn checked(verdict: Verdict) -> Answer
-    ensures { result ≡ told_words (told verdict) }
-{
-    match verdict {
-        Verdict::Accepted(instructions) => done(instructions),
-        Verdict::Refused(number, place) => refused(number, place),
-    }
-}
+// What `check` and `prepare` answered, in words.
+impl From<Result<u32, Refused<u32>>> for Answer {
+    ghost from_gives = { λ said answer. answer ≡ told_words (told said) };
 
-// What `prepare` answered.
-pub fn prepared(outcome: Prepared) -> Answer
-    ensures { result ≡ told_words (prepare_answer outcome) }
-{
-    match outcome {
-        Prepared::Ready(instructions) => done(instructions),
-        Prepared::Refused(number, place) => refused(number, place),
+    fn from(said: Result<u32, Refused<u32>>) -> Answer {
+        match said {
+            Ok(instructions) => done(instructions),
+            Err(Refused { refusal, place }) => refused(refusal, place),
+        }
     }
 }
 
 // What `run` answered.
-pub fn ran(outcome: Outcome) -> Answer
-    ensures { result ≡ answer_of (run_answer outcome) }
-{
-    match outcome {
-        Outcome::Ended(report) => done(report.steps),
-        Outcome::Halted(report, next) => Answer {
-            status: HALTED,
-            first: report.steps,
-            second: next,
-        },
-        Outcome::Refused(number, place) => refused(number, place),
+impl From<Result<Outcome, Refused<u32>>> for Answer {
+    ghost from_gives = { λ ran answer. answer ≡ answer_of (run_answer ran) };
+
+    fn from(ran: Result<Outcome, Refused<u32>>) -> Answer {
+        match ran {
+            Ok(Outcome::Ended(report)) => done(report.steps),
+            Ok(Outcome::Halted(report, next)) => Answer {
+                status: HALTED,
+                first: report.steps,
+                second: next,
+            },
+            Err(due) => refused(due.refusal, due.place),
+        }
     }
 }
 
@@ -96,29 +90,29 @@ pub fn ran(outcome: Outcome) -> Answer
 fn word(n: usize) -> u32
     ensures { result ≡ in_word n }
 {
-    if n < u32::MAX as usize {
-        n as u32
-    } else {
-        u32::MAX
-    }
+    n.min(u32::MAX as usize) as u32
 }
 
 // What `print` or `read` answered.
-pub fn filled(outcome: Filled) -> Answer
-    ensures { result ≡ filled_words (answered outcome) }
-{
-    match outcome {
-        Filled::Wrote(length) => done(word(length)),
-        Filled::Refused(number, place) => refused(number, word(place)),
+impl From<Result<usize, Refused<usize>>> for Answer {
+    ghost from_gives = { λ filled answer. answer ≡ filled_words (answered filled) };
+
+    fn from(filled: Result<usize, Refused<usize>>) -> Answer {
+        match filled {
+            Ok(length) => done(word(length)),
+            Err(Refused { refusal, place }) => refused(refusal, word(place)),
+        }
     }
 }
 
 // Where a record lies.
-pub fn located(bounds: Bounds) -> Part
-    ensures { result ≡ part_of bounds }
-{
-    Part {
-        start: bounds.start,
-        length: bounds.length,
+impl From<Bounds> for Part {
+    ghost from_gives = { λ bounds part. part ≡ part_of bounds };
+
+    fn from(bounds: Bounds) -> Part {
+        Part {
+            start: bounds.start,
+            length: bounds.length,
+        }
     }
 }

@@ -2,6 +2,8 @@
 ghost use Rattle.std.specs.Prelude.{◌≡◌};
 ghost use Rattle.format.specs.Refusals.{number_of};
 
+use std::fmt;
+
 // Why a file, a run or a text is refused.
 #[derive(Clone, Copy, Debug, PartialEq, Eq)]
 pub enum Refusal {
@@ -72,6 +74,36 @@ impl Refusal {
         ensures { result ≡ number_of self }
     {
         self as u8
+    }
+}
+
+// What a refusal says to a person, in the papers' words.
+impl fmt::Display for Refusal {
+    fn fmt<W: fmt::Write>(&self, f: &mut fmt::Formatter<W>) -> fmt::Result {
+        f.write_str(match self {
+            Refusal::TooLong => "file over 65,536 bytes",
+            Refusal::ByteAfterEnd => "a byte follows END",
+            Refusal::UnknownKind => "unknown kind",
+            Refusal::BodyCut => "body runs past the file",
+            Refusal::LateDeclaration => "declaration or immediate after an instruction",
+            Refusal::TooMany => "1,025th instruction or 257th immediate",
+            Refusal::FieldRuleBroken => "a field rule broken",
+            Refusal::Overlapping => "declaration overlaps an earlier one of its file",
+            Refusal::NotDeclared =>
+                "operand not declared, or no such immediate, or memory kind without MEM",
+            Refusal::NestingBroken => "nesting broken",
+            Refusal::SwitchRuleBroken => "switch rule broken",
+            Refusal::TooDeep => "a 17th open block",
+            Refusal::NoEnd => "file ends without END",
+            Refusal::InputsShort => "inputs shorter than the program declares",
+            Refusal::ConstantsShort => "constants shorter than the program declares",
+            Refusal::RegistersShort => "registers under 1,156 words",
+            Refusal::WorkingShort => "working words under 3 per instruction",
+            Refusal::MemoryLong => "memory over 16,384 words",
+            Refusal::MalformedLine =>
+                "malformed line, also an unknown kind or a number too large for its field",
+            Refusal::OutputShort => "output short",
+        })
     }
 }
 

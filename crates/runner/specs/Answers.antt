@@ -1,6 +1,9 @@
 -- What a call answers, in document 01's numbers, and what it leaves in the lent words.
 -- Assumes nothing.
-use Rattle.std.specs.Prelude.{ℕ, List}
+use Rattle.std.specs.Prelude.{ℕ, List, Ok, Err}
+use Rattle.std.specs.Prelude.{Result as Fallible}
+use Rattle.format.specs.Refusals.{number_of}
+use Rattle.format.specs.declared.refusals.Refused.{Refused}
 use Rattle.checker.specs.Check.{Told, breaks}
 use Rattle.execution.specs.declared.Report.{Report}
 use Rattle.runner.specs.declared.Outcome.{Outcome}
@@ -13,10 +16,10 @@ pub data Answer : Type 0 where
   halt : Report → ℕ → Answer
   unanswered : Answer
 
-abbrev pub run_answer : Outcome → Answer
-run_answer (Outcome.Ended report) = end report
-run_answer (Outcome.Halted report next) = halt report next
-run_answer (Outcome.Refused number place) = said (breaks number place)
+abbrev pub run_answer : Fallible Outcome (Refused ℕ) → Answer
+run_answer (Ok (Outcome.Ended report)) = end report
+run_answer (Ok (Outcome.Halted report next)) = halt report next
+run_answer (Err due) = said (breaks (number_of due.refusal) due.place)
 
 -- How many steps an answer reports.
 abbrev pub steps_of : Answer → ℕ

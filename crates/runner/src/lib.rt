@@ -1,34 +1,33 @@
 // Runs of program files: check, prepare, clear, carry out. Nobody has to check first, and nothing is asked of what is lent.
 #![tactic(auto)]
 
-ghost use Rattle.std.specs.Prelude.{◌≡◌, ◌≤◌};
+ghost use Rattle.std.specs.Prelude.{◌≡◌, ◌≤◌, Ok};
 ghost use Rattle.runner.specs.Answers.{run_answer, lent, after, steps_of};
 ghost use Rattle.runner.specs.Whole.{run_of};
 ghost use Rattle.runner.specs.Inner.Stops.{Near, stop_answer};
 
 use admission::{Sizes, admit};
-pub use checker::{Verdict, check};
+pub use checker::check;
 pub use execution::Report;
 use execution::Stop;
-pub use preparation::{Prepared, prepare};
+use format::refusals::Refused;
+pub use preparation::prepare;
 pub use records::{record, record_bounds};
 use running::carry_out_program;
 
-// What a run answers.
+// How a run that is not refused stops.
 #[derive(Clone, Copy)]
 pub enum Outcome {
     // END was carried out.
     Ended(Report),
     // The budget was spent; the next instruction's number.
     Halted(Report, u32),
-    // The number of the refusal, and the byte place.
-    Refused(u8, u32),
 }
 
 // How a program that was carried out is answered for.
 fn answered(stop: Stop) -> Outcome
     requires { Near stop }
-    ensures { run_answer result ≡ stop_answer stop }
+    ensures { run_answer (Ok result) ≡ stop_answer stop }
 {
     match stop {
         Stop::Ended(report) => Outcome::Ended(report),
@@ -45,7 +44,7 @@ pub fn run(
     work: &mut [u32],
     memory: &mut [u32],
     budget: u32,
-) -> Outcome
+) -> Result<Outcome, Refused<u32>>
     ensures whole { after (run_answer result) (lent registers.new work.new memory.new) ≡ run_of file.now inputs.now constants.now (lent registers.old work.old memory.old) budget }
     ensures within { steps_of (run_answer result) ≤ budget }
 {
@@ -57,21 +56,17 @@ pub fn run(
         work: work.len(),
         memory: memory.len(),
     };
-    let admitted = admit(file, sizes, &mut immediates);
-    let verdict = admitted.verdict;
-    let program = admitted.program;
-    match verdict {
-        Verdict::Refused(number, place) => Outcome::Refused(number, place),
-        Verdict::Accepted(_) => answered(carry_out_program(
-            file,
-            program,
-            &immediates,
-            inputs,
-            constants,
-            registers,
-            work,
-            memory,
-            budget,
-        )),
-    }
+    let program = admit(file, sizes, &mut immediates)?;
+    let stop = carry_out_program(
+        file,
+        program,
+        &immediates,
+        inputs,
+        constants,
+        registers,
+        work,
+        memory,
+        budget,
+    );
+    Ok(answered(stop))
 }
