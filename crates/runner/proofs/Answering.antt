@@ -9,11 +9,12 @@ use Rattle.blocks.specs.Run.{most_instructions}
 use Rattle.blocks.specs.Table.{row_words}
 use Rattle.table.specs.Prepared.{filled}
 use Rattle.registers.specs.Sets.{is_in}
-use Rattle.checker.specs.declared.Checked.{Checked}
-use Rattle.checker.specs.declared.Verdict.TheVariants.{Accepted, Refused}
-use Rattle.checker.specs.Check.{accepted, refused, breaks, program_seen, words_after, examined_as, examined}
+use Rattle.std.specs.Prelude.{Ok, Err}
+use Rattle.std.specs.Prelude.{Result as Fallible}
+use Rattle.format.specs.declared.refusals.Refused.{Refused}
+use Rattle.checker.specs.declared.program.Program.{Program}
+use Rattle.checker.specs.Check.{accepted, program_seen, words_after, examined_as, examined}
 use Rattle.checker.specs.Findings.{Seen}
-use Rattle.checker.specs.Inner.Held.{outcome, concluded}
 use Rattle.checker.proofs.Examining.{outcome_is, words_are}
 use Rattle.checker.proofs.Followed.{followed}
 use Rattle.destinations.specs.Destinations.{State}
@@ -35,7 +36,7 @@ use Rattle.execution.specs.Inner.Right.{Right}
 use Rattle.execution.proofs.Demand.{halts_inside, rows_read}
 use Rattle.execution.proofs.Rows.{prepared_right}
 use Rattle.runner.specs.declared.Outcome.{Outcome}
-use Rattle.runner.specs.Answers.{Answer, said, run_answer, steps_of, Lent, lent, after}
+use Rattle.runner.specs.Answers.{Answer, run_answer, steps_of, Lent, lent, after}
 use Rattle.runner.specs.Whole.{sizes_of, reported, run_admitted, run_of}
 use Rattle.runner.specs.Inner.Stops.{Near, stop_answer}
 use Rattle.runner.proofs.Laws.{within_budget}
@@ -47,7 +48,7 @@ reported_is (Stop.Ended report) w t = refl
 reported_is (Stop.Halted report next) w t = refl
 
 -- Each way to stop has its answer.
-pub answered_ended : (stop : Stop) (report : Report) → stop ≡ Stop.Ended report → run_answer (Outcome.Ended report) ≡ stop_answer stop
+pub answered_ended : (stop : Stop) (report : Report) → stop ≡ Stop.Ended report → run_answer (Ok (Outcome.Ended report)) ≡ stop_answer stop
 answered_ended stop report e = rw e
 
 pub near_fits : (stop : Stop) (report : Report) (next : ℕ) → Near stop → stop ≡ Stop.Halted report next → next < 2 ^ 32
@@ -55,89 +56,82 @@ near_fits stop report next near e =
     let below : next < most_instructions = subst Near e near in
     omega arith
 
-pub answered_halted : (stop : Stop) (report : Report) (next : ℕ) → stop ≡ Stop.Halted report next → run_answer (Outcome.Halted report next) ≡ stop_answer stop
+pub answered_halted : (stop : Stop) (report : Report) (next : ℕ) → stop ≡ Stop.Halted report next → run_answer (Ok (Outcome.Halted report next)) ≡ stop_answer stop
 answered_halted stop report next e = rw e
 
 -- ---- The run
 
 -- What was admitted, by whatever sizes; that they are those of what is lent is asked last.
-module _ (file inputs constants registers work memory : List ℕ) (sizes : Sizes) (c : Checked) (words before : List ℕ)
-    (answer : examined_as c words ≡ examined (admission_of file sizes) before)
-  where
-    abbrev over : Lent
-    over = lent registers work memory
+module _ (file inputs constants registers work memory : List ℕ) (sizes : Sizes) (words before : List ℕ) where
+  abbrev over : Lent
+  over = lent registers work memory
 
-    admission_said : outcome c words ≡ admission_of file sizes
-    admission_said = outcome_is c words before (admission_of file sizes) answer
+  pub run_refused : (budget : ℕ) (due : Refused ℕ) → examined_as (Err due) words ≡ examined (admission_of file sizes) before
+      → sizes ≡ sizes_of inputs constants over → after (run_answer (Err due)) over ≡ run_of file inputs constants over budget
+  unfolding run_of run_admitted
+  run_refused budget due answer measured = rw (← measured, ← outcome_is (Err due) words before (admission_of file sizes) answer)
 
-    pub run_refused : (budget number place : ℕ) → c.verdict ≡ Refused number place → sizes ≡ sizes_of inputs constants over
-        → after (said (breaks number place)) over ≡ run_of file inputs constants over budget
-    unfolding run_of run_admitted
-    run_refused budget number place e measured =
-        let is : admission_of file sizes ≡ refused number place = sym admission_said ∙ ap (λ v. concluded v (program_seen c.program words [])) e in
-        rw (← measured, is)
+  -- The program that was seen is admitted, and came to a stop.
+  module _ (p : Program) (answer : examined_as (Ok p) words ≡ examined (admission_of file sizes) before) (budget : ℕ) (stop : Stop) (r' w m' : List ℕ)
+      (made : w ≡ filled file p.start p.instructions work)
+      (came : reached stop (state r' m') ≡ by_rows file w (bank_env (is_in p.declared) words inputs constants) budget 0 0 (state (zeroed registers) memory))
+      (r-lent : sizes.registers ≡ length registers) (w_lent : sizes.work ≡ length work)
+    where
+      abbrev seen : Seen
+      seen = program_seen p words []
 
-    -- The program that was seen is admitted, and came to a stop.
-    module _ (n budget : ℕ) (stop : Stop) (r' w m' : List ℕ)
-        (made : w ≡ filled file c.program.start c.program.instructions work)
-        (came : reached stop (state r' m') ≡ by_rows file w (bank_env (is_in c.program.declared) words inputs constants) budget 0 0 (state (zeroed registers) memory))
-        (e : c.verdict ≡ Accepted n) (r-lent : sizes.registers ≡ length registers) (w_lent : sizes.work ≡ length work)
-      where
-        abbrev seen : Seen
-        seen = program_seen c.program words []
+      admits : admission_of file sizes ≡ accepted seen
+      admits = sym (outcome_is (Ok p) words before (admission_of file sizes) answer)
 
-        admits : admission_of file sizes ≡ accepted seen
-        admits = sym admission_said ∙ ap (λ v. concluded v (program_seen c.program words [])) e
+      -- The immediates are the first of the words, and 0 follows them.
+      padded : word_in words ≡ word_in (take (4 * p.immediates) words)
+      padded =
+          padded_words words (take (4 * p.immediates) words) (1024 - length (take (4 * p.immediates) words))
+          (words_are (Ok p) words before (admission_of file sizes) answer ∙ ap (λ o. words_after o before) admits)
 
-        -- The immediates are the first of the words, and 0 follows them.
-        padded : word_in words ≡ word_in (take (4 * c.program.immediates) words)
-        padded =
-            padded_words words (take (4 * c.program.immediates) words) (1024 - length (take (4 * c.program.immediates) words))
-            (words_are c words before (admission_of file sizes) answer ∙ ap (λ o. words_after o before) admits)
+      holds : Admitted seen file sizes
+      holds = admitted_is file sizes seen admits
 
-        holds : Admitted seen file sizes
-        holds = admitted_is file sizes seen admits
+      fits : (1156 ≤ length registers) × (row_words * p.instructions ≤ length work)
+      fits = rw (← r-lent, ← w_lent) (lent_enough seen sizes holds.none_due)
 
-        fits : (1156 ≤ length registers) × (row_words * c.program.instructions ≤ length work)
-        fits = rw (← r-lent, ← w_lent) (lent_enough seen sizes holds.none_due)
+      w_prepared : w ≡ prepared_in seen file work
+      w_prepared = made ∙ table_made seen file work holds.follows fits.1
 
-        w_prepared : w ≡ prepared_in seen file work
-        w_prepared = made ∙ table_made seen file work holds.follows fits.1
+      right : Right seen file w
+      right = rw w_prepared (prepared_right seen file holds.follows work fits.1)
 
-        right : Right seen file w
-        right = rw w_prepared (prepared_right seen file holds.follows work fits.1)
+      carried : reached stop (state r' m') ≡ carried_out seen file inputs constants budget (state (cleared registers) memory)
+      carried =
+          came
+          ∙ ap (λ (l : List ℕ). by_rows file w (bank_env (is_in p.declared) words inputs constants) budget 0 0 (state l memory)) (zeroed_is registers fits.0)
+          ∙ rw padded
+          (rows_read seen file holds.follows inputs constants w right budget (state (cleared registers) memory))
 
-        carried : reached stop (state r' m') ≡ carried_out seen file inputs constants budget (state (cleared registers) memory)
-        carried =
-            came
-            ∙ ap (λ (l : List ℕ). by_rows file w (bank_env (is_in c.program.declared) words inputs constants) budget 0 0 (state l memory)) (zeroed_is registers fits.0)
-            ∙ rw padded
-            (rows_read seen file holds.follows inputs constants w right budget (state (cleared registers) memory))
+      pub near_stop : Near stop
+      near_stop = by stop refl
+        where
+          by : (x : Stop) → stop ≡ x → Near x
+          by (Stop.Ended report) q = tt
+          by (Stop.Halted report next) q =
+              omega (
+                arith,
+                halts_inside seen file holds.follows inputs constants budget (state (cleared registers) memory) next report.steps (state r' m')
+                    (sym carried ∙ ap (λ (x : Stop). reached x (state r' m')) q),
+                (followed file seen holds.follows).1.most,
+              )
 
-        pub near_stop : Near stop
-        near_stop = by stop refl
-          where
-            by : (x : Stop) → stop ≡ x → Near x
-            by (Stop.Ended report) q = tt
-            by (Stop.Halted report next) q =
-                omega (
-                  arith,
-                  halts_inside seen file holds.follows inputs constants budget (state (cleared registers) memory) next report.steps (state r' m')
-                      (sym carried ∙ ap (λ (x : Stop). reached x (state r' m')) q),
-                  (followed file seen holds.follows).1.most,
-                )
+      module _ (r : Fallible Outcome (Refused ℕ)) (told : run_answer r ≡ stop_answer stop) (measured : sizes ≡ sizes_of inputs constants over) where
+        pub carried_out_is : after (run_answer r) (lent r' w m') ≡ run_of file inputs constants over budget
+        unfolding run_of run_admitted
+        carried_out_is =
+            ap (λ (a : Answer). after a (lent r' w m')) told
+            ∙ reported_is stop w (state r' m')
+            ∙ ap (reported w) carried
+            ∙ rw (← measured, admits, w_prepared)
 
-        module _ (r : Outcome) (told : run_answer r ≡ stop_answer stop) (measured : sizes ≡ sizes_of inputs constants over) where
-          pub carried_out_is : after (run_answer r) (lent r' w m') ≡ run_of file inputs constants over budget
-          unfolding run_of run_admitted
-          carried_out_is =
-              ap (λ (a : Answer). after a (lent r' w m')) told
-              ∙ reported_is stop w (state r' m')
-              ∙ ap (reported w) carried
-              ∙ rw (← measured, admits, w_prepared)
-
-          -- Every answer of a run is within the budget.
-          pub carried_within : steps_of (run_answer r) ≤ budget
-          carried_within =
-              let same : steps_of (run_answer r) ≡ steps_of (run_of file inputs constants over budget).answer = ap (λ x. steps_of x.answer) carried_out_is in
-              omega (arith, same, within_budget file inputs constants over budget)
+        -- Every answer of a run is within the budget.
+        pub carried_within : steps_of (run_answer r) ≤ budget
+        carried_within =
+            let same : steps_of (run_answer r) ≡ steps_of (run_of file inputs constants over budget).answer = ap (λ x. steps_of x.answer) carried_out_is in
+            omega (arith, same, within_budget file inputs constants over budget)
