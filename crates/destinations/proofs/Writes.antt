@@ -17,28 +17,6 @@ use Rattle.format.specs.declared.fields.Destination.{Destination}
 pub no_component : (mask i : ℕ) → mask < 256 → 8 ≤ i → false ≡ is_set mask i
 no_component mask i b h = sym (ap (λ (n : ℕ). eqb (n % 2) 1) (div-eq_of_lt (lt_of_lt_of_le b (pow_mono h))))
 
-module _ (mask i : ℕ) (put : ℕ → List ℕ → List ℕ) (l : List ℕ) (t : Bool) (e : t ≡ eqb (bit mask i) 1) where
-  pub masked_on : (m : List ℕ) → t ≡ true → m ≡ put i l → m ≡ if_masked mask i put l
-  unfolding if_masked
-  masked_on m h k = rw (← e, h) k
-
-  pub masked_off : t ≡ false → l ≡ if_masked mask i put l
-  unfolding if_masked
-  masked_off h = rw (← e, h)
-
-module _ (d : Destination) where
-  pub first_out : d.file ≡ 3 → 4 * d.index ≡ first_word d
-  unfolding first_word
-  first_out h = rw h
-
-  pub first_temp : d.file ≡ 4 → 128 + 4 * d.index ≡ first_word d
-  unfolding first_word
-  first_temp h = rw h
-
-  pub first_addr : (d.file ≡ 3 → ⊥) → (d.file ≡ 4 → ⊥) → 1152 ≡ first_word d
-  unfolding first_word
-  first_addr a b = simp (ne_eqb d.file 3 a, ne_eqb d.file 4 b)
-
 -- The components of a mask, one after the other: after those below i.
 module _ (mask : ℕ) (put : ℕ → List ℕ → List ℕ) (l : List ℕ) where
   abbrev pub masked_to : ℕ → List ℕ
