@@ -16,9 +16,10 @@ pub mod lent;
 pub fn is_masked(mask: u8, i: u8) -> bool
     ensures { result ≡ is_set mask i }
 {
-    if i < 8 { (mask >> i) % 2 == 1 } else { false }
+    i < 8 && (mask >> i) % 2 == 1
 }
 
+#[tactic(auto, unfolding(crate::specs::Destinations::if_masked))]
 fn put(registers: &mut [u32], mask: u8, i: u8, first: u32, word: u32)
     ensures { registers.new ≡ if_masked mask i (λ i l. set l (first + i) word) registers.old }
 {
@@ -28,6 +29,7 @@ fn put(registers: &mut [u32], mask: u8, i: u8, first: u32, word: u32)
 }
 
 // Where the words of the register begin that a destination names.
+#[tactic(auto, unfolding(crate::specs::Destinations::first_word))]
 pub fn first_word(d: Destination) -> u32
     ensures { result ≡ first_word d }
 {
@@ -43,8 +45,7 @@ pub fn first_word(d: Destination) -> u32
 pub fn write(registers: &mut [u32], first: u32, mask: u8, v: [u32; 4])
     ensures { registers.new ≡ masked mask (placed first v) registers.old }
 {
-    put(registers, mask, 0, first, v[0]);
-    put(registers, mask, 1, first, v[1]);
-    put(registers, mask, 2, first, v[2]);
-    put(registers, mask, 3, first, v[3]);
+    for i in 0..4 {
+        put(registers, mask, i, first, v[i as usize]);
+    }
 }

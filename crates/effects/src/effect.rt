@@ -2,10 +2,9 @@
 ghost use Rattle.std.specs.Prelude.{◌≡◌};
 ghost use Rattle.words.specs.Word.{cas};
 ghost use Rattle.memory.specs.Memory.{loaded, stored};
-ghost use Rattle.results.specs.Arithmetic.{atomic as atomicOf};
+ghost use Rattle.results.specs.Arithmetic.{atomic};
 ghost use Rattle.effects.specs.Effect.{state, family_of, effect_of};
 
-use crate::sources::{source, x_of};
 use componentwise::write_words;
 use destinations::{first_word, write};
 use format::fields::Destination;
@@ -16,7 +15,7 @@ use results::wide::{wide_unary_words, wide_words};
 
 // Stores what an atomic of this kind makes of the old word and b, and gives the old word.
 fn atomic(kind: u8, memory: &mut [u32], address: u32, b: u32) -> u32
-    ensures { (result ≡ loaded memory.old address) × (memory.new ≡ stored memory.old address (atomicOf kind result b)) }
+    ensures { (result ≡ loaded memory.old address) × (memory.new ≡ stored memory.old address (atomic kind result b)) }
 {
     let old = load(memory, address as usize);
     store(memory, address as usize, atomic_word(kind, old, b));
@@ -44,31 +43,31 @@ pub fn effect(
 {
     let first = first_word(d);
     let mask = d.mask;
-    let x = x_of(sources, 0);
+    let x = sources[0][0];
     match kind {
         0x10..=0x1a => write_words(registers, first, mask, kind, sources),
         0x1b..=0x1d => write(
             registers,
             first,
             mask,
-            wide_unary_words(kind, source(sources, 0)),
+            wide_unary_words(kind, sources[0]),
         ),
         0x1e => write(registers, first, mask, load_from(memory, x)),
         0x20..=0x37 => write_words(registers, first, mask, kind, sources),
         0x40..=0x52 => {
-            let v = wide_words(kind, source(sources, 0), source(sources, 1));
+            let v = wide_words(kind, sources[0], sources[1]);
             write(registers, first, mask, v);
         }
-        0x58 => store_from(memory, x, mask, source(sources, 1)),
+        0x58 => store_from(memory, x, mask, sources[1]),
         0x56..=0x5f => {
-            let old = atomic(kind, memory, x, x_of(sources, 1));
-            write(registers, first, mask, [old, old, old, old]);
+            let old = atomic(kind, memory, x, sources[1][0]);
+            write(registers, first, mask, [old; 4]);
         }
         0x60..=0x63 => write_words(registers, first, mask, kind, sources),
         0x64 => {
-            let b = x_of(sources, 1);
-            let old = atomic_cas(memory, x, b, x_of(sources, 2));
-            write(registers, first, mask, [old, old, old, old]);
+            let b = sources[1][0];
+            let old = atomic_cas(memory, x, b, sources[2][0]);
+            write(registers, first, mask, [old; 4]);
         }
         0x70 => write_words(registers, first, mask, kind, sources),
         _ => {}

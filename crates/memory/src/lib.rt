@@ -9,27 +9,25 @@ use destinations::is_masked;
 use destinations::lent::{set_word, word_at};
 
 // The word at an address.
+#[tactic(auto, unfolding(crate::specs::Memory::loaded))]
 pub fn load(memory: &[u32], address: usize) -> u32
     ensures { result ≡ loaded memory.now address }
 {
-    if address % 4 == 0 {
-        word_at(memory, address / 4)
-    } else {
-        0
-    }
+    if address % 4 == 0 { word_at(memory, address / 4) } else { 0 }
 }
 
 // Writes the word at an address.
+#[tactic(auto, unfolding(crate::specs::Memory::stored))]
 pub fn store(memory: &mut [u32], address: usize, word: u32)
     ensures { memory.new ≡ stored memory.old address word }
 {
-    if address % 4 != 0 {
-        return;
+    if address % 4 == 0 {
+        set_word(memory, address / 4, word);
     }
-    set_word(memory, address / 4, word);
 }
 
 // The four words from an address on.
+#[tactic(auto, unfolding(crate::specs::Memory::loaded_from, destinations::specs::Destinations::components))]
 pub fn load_from(memory: &[u32], address: u32) -> [u32; 4]
     ensures { result ≡ loaded_from memory.now address }
 {
@@ -42,6 +40,7 @@ pub fn load_from(memory: &[u32], address: u32) -> [u32; 4]
     ]
 }
 
+#[tactic(auto, unfolding(destinations::specs::Destinations::if_masked))]
 fn store_masked(memory: &mut [u32], mask: u8, i: u8, address: u32, word: u32)
     ensures { memory.new ≡ if_masked mask i (λ i l. stored l (address + 4 * i) word) memory.old }
 {
@@ -54,8 +53,7 @@ fn store_masked(memory: &mut [u32], mask: u8, i: u8, address: u32, word: u32)
 pub fn store_from(memory: &mut [u32], address: u32, mask: u8, v: [u32; 4])
     ensures { memory.new ≡ stored_from memory.old address mask v }
 {
-    store_masked(memory, mask, 0, address, v[0]);
-    store_masked(memory, mask, 1, address, v[1]);
-    store_masked(memory, mask, 2, address, v[2]);
-    store_masked(memory, mask, 3, address, v[3]);
+    for i in 0..4 {
+        store_masked(memory, mask, i, address, v[i as usize]);
+    }
 }
