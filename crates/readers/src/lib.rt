@@ -11,68 +11,52 @@ use format::fields::{Declaration, Destination, Source};
 pub fn byte_at(bytes: &[u8], at: usize) -> u8
     ensures { result ≡ get_or bytes.now at 0 }
 {
-    if at < bytes.len() { bytes[at] } else { 0 }
+    bytes.get(at).copied().unwrap_or(0)
 }
 
-// A byte is below 256.
-fn byte(b: u8) -> u8
-    ensures same { result ≡ b }
-    ensures small { b < 256 }
-{
-    b
-}
-
-// That what is lent as bytes has bytes only, for callers whose contract rests on it. It answers nothing: the loop is its proof, and an
-// optimised build drops it.
+// That what is lent as bytes has bytes only, for callers whose contract rests on it: their type says so.
 pub fn all_bytes(bytes: &[u8])
     ensures { Bytes bytes.now }
-{
-    let mut i: usize = 0;
-    while i < bytes.len() {
-        byte(bytes[i]);
-        i += 1;
-    }
-}
+{}
 
-// The byte k places on: the sum of a place and an offset is taken only where it lies within the bytes, so that it cannot wrap.
+// The byte k places on; a place too large for a number is past every end.
 fn byte_after(bytes: &[u8], at: usize, k: usize) -> u8
     ensures { result ≡ get_or bytes.now (at + k) 0 }
 {
-    if at < bytes.len() {
-        if k < bytes.len() - at {
-            return bytes[at + k];
-        }
-    }
-    0
+    byte_at(bytes, at.saturating_add(k))
 }
 
 // The 16-bit number of two bytes, the low one first.
 fn u16_of(low: u8, high: u8) -> u16
     ensures { result ≡ low + 256 * high }
 {
-    low as u16 + 256 * high as u16
+    u16::from_le_bytes([low, high])
 }
 
 // The 16-bit number k places on.
+#[tactic(auto, unfolding(format::specs::Fields::word16))]
 fn u16_after(bytes: &[u8], at: usize, k: u8) -> u16
     ensures { result ≡ word16 bytes.now (at + k) }
 {
-    let low = byte_after(bytes, at, k as usize);
-    let high = byte_after(bytes, at, k as usize + 1);
-    u16_of(low, high)
+    let k = k as usize;
+    u16_of(byte_after(bytes, at, k), byte_after(bytes, at, k + 1))
 }
 
 // The 32-bit number at a place.
+#[tactic(auto, unfolding(format::specs::Fields::word32))]
 pub fn u32_at(bytes: &[u8], at: usize) -> u32
     ensures { result ≡ word32 bytes.now at }
 {
-    byte_at(bytes, at) as u32
-        + 256 * byte_after(bytes, at, 1) as u32
-        + 65536 * byte_after(bytes, at, 2) as u32
-        + 16777216 * byte_after(bytes, at, 3) as u32
+    u32::from_le_bytes([
+        byte_at(bytes, at),
+        byte_after(bytes, at, 1),
+        byte_after(bytes, at, 2),
+        byte_after(bytes, at, 3),
+    ])
 }
 
 // The number of a field of this width at a place.
+#[tactic(auto, unfolding(format::specs::Fields::number_at))]
 pub fn number_at(bytes: &[u8], at: usize, width: u8) -> u32
     ensures { result ≡ number_at bytes.now at width }
 {
@@ -83,14 +67,18 @@ pub fn number_at(bytes: &[u8], at: usize, width: u8) -> u32
     }
 }
 
-// The destination that stands at a place.
+// The destination that stands at a place. Where all four bytes are there, as in every step, none is asked for by itself: a slice pattern
+// says the same and takes a tenth longer.
+#[tactic(auto, unfolding(format::specs::Fields::destination_at, format::specs::Fields::word16))]
 pub fn destination_at(file: &[u8], at: usize) -> Destination
     ensures { result ≡ destination_at file.now at }
 {
-    if at < file.len() {
-        if 4 <= file.len() - at {
-            return destination_in(file, at);
-        }
+    if at < file.len() && 4 <= file.len() - at {
+        return Destination {
+            file: file[at],
+            index: u16_of(file[at + 1], file[at + 2]),
+            mask: file[at + 3],
+        };
     }
     Destination {
         file: byte_at(file, at),
@@ -99,26 +87,18 @@ pub fn destination_at(file: &[u8], at: usize) -> Destination
     }
 }
 
-// The same where all four bytes are there, so that none is asked for by itself.
-fn destination_in(bytes: &[u8], at: usize) -> Destination
-    requires { at + 4 ≤ length bytes.now }
-    ensures { result ≡ destination_at bytes.now at }
-{
-    Destination {
-        file: bytes[at],
-        index: u16_of(bytes[at + 1], bytes[at + 2]),
-        mask: bytes[at + 3],
-    }
-}
-
-// The source that stands at a place.
+// The source that stands at a place, in the same way.
+#[tactic(auto, unfolding(format::specs::Fields::source_at, format::specs::Fields::word16))]
 pub fn source_at(file: &[u8], at: usize) -> Source
     ensures { result ≡ source_at file.now at }
 {
-    if at < file.len() {
-        if 5 <= file.len() - at {
-            return source_in(file, at);
-        }
+    if at < file.len() && 5 <= file.len() - at {
+        return Source {
+            file: file[at],
+            index: u16_of(file[at + 1], file[at + 2]),
+            swizzle: file[at + 3],
+            modifier: file[at + 4],
+        };
     }
     Source {
         file: byte_at(file, at),
@@ -128,20 +108,8 @@ pub fn source_at(file: &[u8], at: usize) -> Source
     }
 }
 
-// The same where all five bytes are there.
-fn source_in(bytes: &[u8], at: usize) -> Source
-    requires { at + 5 ≤ length bytes.now }
-    ensures { result ≡ source_at bytes.now at }
-{
-    Source {
-        file: bytes[at],
-        index: u16_of(bytes[at + 1], bytes[at + 2]),
-        swizzle: bytes[at + 3],
-        modifier: bytes[at + 4],
-    }
-}
-
 // The declaration whose file byte stands at a place.
+#[tactic(auto, unfolding(format::specs::Fields::declaration_at))]
 pub fn declaration_at(file: &[u8], at: usize) -> Declaration
     ensures { result ≡ declaration_at file.now at }
 {
@@ -153,15 +121,12 @@ pub fn declaration_at(file: &[u8], at: usize) -> Declaration
 }
 
 // The word that a CASE record at a place compares: its immediate's component that the swizzle's x selects.
+#[tactic(auto, unfolding(format::specs::Fields::case_word))]
 pub fn case_word(immediates: &[u32], file: &[u8], at: usize) -> u32
     ensures { result ≡ case_word immediates.now file.now at }
 {
     let index = u16_after(file, at, 2);
     let component = byte_after(file, at, 4) % 4;
     let i = 4 * index as usize + component as usize;
-    if i < immediates.len() {
-        immediates[i]
-    } else {
-        0
-    }
+    immediates.get(i).copied().unwrap_or(0)
 }
