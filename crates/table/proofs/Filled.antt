@@ -1,6 +1,6 @@
 -- The words that `fill` leaves: the table's where there is room, and the old ones where there is none.
 -- Assumes nothing.
-use mathlib.Core.Path.{◌≡◌, sym, ap, ap₂, ◌∙◌}
+use mathlib.Core.Path.{◌≡◌, ap, ap₂, ◌∙◌}
 use mathlib.Core.Bool.{true}
 use mathlib.Core.List.{List, []}
 use Prim.Native.Nat.{ℕ, ◌+◌, ◌*◌, ◌≤◌, ◌<◌}
@@ -8,7 +8,7 @@ use native.Mathlib.Omega.{arith}
 use native.Mathlib.Nat.{zero-add}
 use lib.ListN.{length, get_or, take}
 use lib.Seq.{sets, length-take-le, get_or-take}
-use borrow.Author.Tests.{le-leb, lt-leb}
+use borrow.Author.Tests.{le-leb}
 use Rattle.format.specs.Records.{longest, place_from}
 use Rattle.blocks.specs.Control.{Op, op_of}
 use Rattle.blocks.specs.Lists.{nested_lists}
@@ -24,74 +24,41 @@ use Rattle.lists.proofs.Laid.{list_fits}
 use Rattle.table.proofs.Same.{table_same, words_same}
 use Rattle.table.proofs.Words.{length_words, words_place, words_row, get_or_stored}
 
--- ---- No room
+-- Where there is room: the rows by the kinds and places that were found, written from row 0.
+module _ (file : List ℕ) (start count : ℕ) (work kinds places : List ℕ)
+    (short : length file ≤ longest)
+    (early : start ≤ length file)
+    (few : count ≤ most_instructions)
+    (found : Located file start count kinds places)
+  where
+    kinds_held : length (take count kinds) ≡ count
+    kinds_held = length-take-le count kinds (omega (arith, found.kinds_length))
 
-module _ (file : List ℕ) (start count : ℕ) (work : List ℕ) where
-  pub file_long : longest < length file → work ≡ filled file start count work
-  unfolding filled
-  file_long h = rw (lt-leb (length file) longest h)
+    words : words_in (take count kinds) (take count places) nowhere 0 (list_in (take count kinds) 0) ≡ table_words file start count
+    unfolding words_in table_words table
+    words =
+        let op : ℕ → Op = op_in (take count kinds) in
+        rw kinds_held
+        (words_same (λ m. get_or (take count places) m 0) (place_from file start) 0 (table op (nested_lists op count))
+        (λ m h.
+        let k : m < count = omega (arith, length_rows op nowhere (nested_lists op count), list_fits op count 0 (omega arith)) in
+        get_or-take count places m 0 k ∙ found.place m k)
+        ∙ ap (words_of (place_from file start) 0)
+        (table_same op (op_from file start) count (λ n k. ap op_of (get_or-take count kinds n 0 k ∙ found.kind n k))))
 
-  module _ (short : length file ≤ longest) where
-    pub start_late : length file < start → work ≡ filled file start count work
+    pub fill_table : row_words * count ≤ length work
+        → (after : List ℕ)
+        → after ≡ sets work (row_words * 0) (words_in (take count kinds) (take count places) nowhere 0 (list_in (take count kinds) 0))
+        → after ≡ filled file start count work
     unfolding filled
-    start_late h = rw (le-leb (length file) longest short, lt-leb start (length file) h)
-
-    module _ (early : start ≤ length file) where
-      pub too_many : most_instructions < count → work ≡ filled file start count work
-      unfolding filled
-      too_many h = rw (le-leb (length file) longest short, le-leb start (length file) early, lt-leb count most_instructions h)
-
-      module _ (few : count ≤ most_instructions) where
-        pub work_short_is : length work < row_words * count → work ≡ filled file start count work
-        unfolding filled
-        work_short_is h =
-            rw (
-              le-leb (length file) longest short,
-              le-leb start (length file) early,
-              le-leb count most_instructions few,
-              lt-leb (row_words * count) (length work) h,
-            )
-
-        -- ---- Room
-
-        module _ (kinds places : List ℕ) (found : Located file start count kinds places) where
-          kinds_held : length (take count kinds) ≡ count
-          kinds_held = length-take-le count kinds (omega (arith, found.kinds_length))
-
-          places_held : length (take count places) ≡ count
-          places_held = length-take-le count places (omega (arith, found.places_length))
-
-          pub kinds_part : count ≡ length (take count kinds)
-          kinds_part = sym kinds_held
-
-          pub places_part : count ≡ length (take count places)
-          places_part = sym places_held
-
-          words : words_in (take count kinds) (take count places) nowhere 0 (list_in (take count kinds) 0) ≡ table_words file start count
-          unfolding words_in table_words table
-          words =
-              let op : ℕ → Op = op_in (take count kinds) in
-              rw kinds_held
-              (words_same (λ m. get_or (take count places) m 0) (place_from file start) 0 (table op (nested_lists op count))
-              (λ m h.
-              let k : m < count = omega (arith, length_rows op nowhere (nested_lists op count), list_fits op count 0 (omega arith)) in
-              get_or-take count places m 0 k ∙ found.place m k)
-              ∙ ap (words_of (place_from file start) 0)
-              (table_same op (op_from file start) count (λ n k. ap op_of (get_or-take count kinds n 0 k ∙ found.kind n k))))
-
-          pub fill_table : row_words * count ≤ length work
-              → (after : List ℕ)
-              → after ≡ sets work (row_words * 0) (words_in (take count kinds) (take count places) nowhere 0 (list_in (take count kinds) 0))
-              → after ≡ filled file start count work
-          unfolding filled
-          fill_table h after e =
-              rw (
-                le-leb (length file) longest short,
-                le-leb start (length file) early,
-                le-leb count most_instructions few,
-                le-leb (row_words * count) (length work) h,
-              )
-              (e ∙ rw words)
+    fill_table h after e =
+        rw (
+          le-leb (length file) longest short,
+          le-leb start (length file) early,
+          le-leb count most_instructions few,
+          le-leb (row_words * count) (length work) h,
+        )
+        (e ∙ rw words)
 
 -- ---- The rows of the words of a table
 

@@ -3,28 +3,17 @@
 use mathlib.Core.Path.{◌≡◌, refl, ◌∙◌}
 use mathlib.Core.List.{List}
 use mathlib.Core.Bool.{Bool, true, false}
-use Prim.Native.Nat.{ℕ, ◌+◌, ◌^◌, ◌≤◌, ◌<◌}
+use Prim.Native.Nat.{ℕ, ◌+◌, ◌≤◌, ◌<◌}
 use native.Mathlib.Omega.{arith}
 use native.Mathlib.Numerals.{add-one}
 use lib.Dec.{eqb}
 use lib.ListN.{length, get_or, set, length-set}
 use lib.Seq.{get_or-set_same, get_or-set_other}
-use borrow.Author.Tests.{eq-eqb, ne_eqb, eqb-true, eqb-false}
-use Rattle.format.specs.Records.{longest, size_at, next, place_from}
-use Rattle.records.proofs.Walk.{place_fits}
+use borrow.Author.Tests.{eqb-true, eqb-false}
+use Rattle.format.specs.Records.{next, place_from}
 use Rattle.blocks.specs.Run.{most_instructions}
 use Rattle.table.specs.Prepared.{kind_from}
 use Rattle.table.specs.Inner.Rows.{Located}
-
--- `next_place`: the record at a place has the size k.
-module _ (file : List ℕ) (at k : ℕ) (e : k ≡ size_at file at) where
-  pub next_none : k ≡ 0 → length file ≡ next file at
-  unfolding next
-  next_none z = rw (← e, eq-eqb k 0 z)
-
-  pub next_record : (k ≡ 0 → ⊥) → at + k ≡ next file at
-  unfolding next
-  next_record h = rw (← e, ne_eqb k 0 h)
 
 -- One more element of a list whose first n are as f says.
 stored : (l : List ℕ) (f : ℕ → ℕ) (n v : ℕ)
@@ -53,26 +42,11 @@ module _ (file : List ℕ) (start : ℕ) where
     place = λ n h. absurd (omega arith);
   }
 
-  pub located_all : (n count : ℕ) (kinds places : List ℕ)
-      → n ≤ count
-      → count ≤ n
-      → Located file start n kinds places
-      → Located file start count kinds places
-  located_all n count kinds places h k l =
-      let e : count ≡ n = omega arith in
-      rw e l
-
   pub place_start : start ≡ place_from file start 0
   unfolding place_from
   place_start = refl
 
   module _ (n at : ℕ) (e : at ≡ place_from file start n) where
-    pub place_within : start ≤ length file → at ≤ length file
-    place_within h = rw e (place_fits file start n h)
-
-    pub place_narrow : start ≤ length file → length file ≤ longest → at < 2 ^ 32
-    place_narrow h l = omega (arith, place_within h)
-
     pub place_next : (r : ℕ) → r ≡ next file at → r ≡ place_from file start (n + 1)
     unfolding place_from
     place_next r f = rw (add-one n, ← e) f

@@ -1,12 +1,11 @@
 -- The rows that the readers write one after the other are the rows of the list.
 -- Assumes nothing.
 use mathlib.Core.Path.{◌≡◌, refl, sym, ◌∙◌}
-use mathlib.Core.Bool.{Bool, true, false, cond}
+use mathlib.Core.Bool.{true, false, cond}
 use mathlib.Core.List.{List, [], ◌∷◌, ◌++◌, append-nil, append_assoc}
-use Prim.Native.Nat.{ℕ, suc, ◌+◌, ◌-◌, ◌*◌, ◌<◌, ◌≤◌}
+use Prim.Native.Nat.{ℕ, suc, ◌+◌, ◌*◌, ◌<◌, ◌≤◌}
 use native.Mathlib.Omega.{arith}
 use native.Mathlib.Numerals.{add-one}
-use native.Mathlib.Decide.{dec_lt}
 use lib.ListN.{length, get_or}
 use lib.Seq.{sets, length-sets}
 use Rattle.blocks.specs.Control.{Op, PLAIN, ELSE, ENDIF, BGNLOOP, ENDLOOP, BRK, CONT, DEFAULT, ENDSWITCH, END, UIF, SWITCH, CASE, is_label, closes, op_of}
@@ -70,7 +69,7 @@ module _ (kinds : List ℕ) (few : length kinds ≤ most_instructions) where
         within (loop m l rest) w = omega arith
         within (switch m l rest) w = laid_label (op_in kinds) (length kinds) l (suc n) w.2
 
-pub near_of : (b c a : ℕ)
+near_of : (b c a : ℕ)
     → b ≤ most_instructions
     → c ≤ most_instructions
     → a ≤ most_instructions
@@ -127,18 +126,15 @@ empty (uif n p q rest) h = absurd (omega arith)
 empty (loop n l rest) h = absurd (omega arith)
 empty (switch n l rest) h = absurd (omega arith)
 
--- An instruction opens a block: what was found of it.
-module _ (kinds : List ℕ) (n : ℕ) (o : Opened) (there : n < length kinds) (opening : opens (op_in kinds n) ≡ true)
-    (found : o ≡ opened_by (op_in kinds) n (block_in kinds n))
-  where
-    pub end_found : o.end ≡ n + size (block_in kinds n)
-    end_found = rw found
-
-    -- A second part starts after the instruction.
-    pub second_later : n < o.second
-    second_later =
-        rw found
-        (at_opening kinds n there (λ l. n < past_first n (block_of l)) opening (λ q. omega arith) (omega arith) (omega arith))
+-- A second part starts after the instruction that opens the block.
+pub second_later : (kinds : List ℕ) (n : ℕ) (o : Opened)
+    → n < length kinds
+    → opens (op_in kinds n) ≡ true
+    → o ≡ opened_by (op_in kinds) n (block_in kinds n)
+    → n < o.second
+second_later kinds n o there opening found =
+    rw found
+    (at_opening kinds n there (λ l. n < past_first n (block_of l)) opening (λ q. omega arith) (omega arith) (omega arith))
 
 module _ (kinds places : List ℕ) (t : Targets) where
   abbrev place : ℕ → ℕ
@@ -181,8 +177,8 @@ module _ (kinds places : List ℕ) (t : Targets) where
           → opens (op n) ≡ false
           → sets w (row_words * n) (words_in kinds places t n (list_in kinds n))
           ≡ sets
-            (sets w (row_words * n) (place n ∷ jump_of (op n) t ∷ cond (is_label (op n)) (first_label op (list_in kinds (n + 1))) 0 ∷ []))
-            (row_words * (n + 1)) (words_in kinds places t (n + 1) (list_in kinds (n + 1)))
+          (sets w (row_words * n) (place n ∷ jump_of (op n) t ∷ cond (is_label (op n)) (first_label op (list_in kinds (n + 1))) 0 ∷ []))
+          (row_words * (n + 1)) (words_in kinds places t (n + 1) (list_in kinds (n + 1)))
       unfolding words_in words_of rows
       words_plain k l =
           rw (add-one n, at_plain kinds n h k l)
@@ -191,8 +187,8 @@ module _ (kinds places : List ℕ) (t : Targets) where
       pub words_opening : opens (op n) ≡ true
           → sets w (row_words * n) (words_in kinds places t n (list_in kinds n))
           ≡ sets (sets w (row_words * n) (words_in kinds places t n (block_in kinds n)))
-            (row_words * (n + size (block_in kinds n)))
-            (words_in kinds places t (n + size (block_in kinds n)) (list_in kinds (n + size (block_in kinds n))))
+          (row_words * (n + size (block_in kinds n)))
+          (words_in kinds places t (n + size (block_in kinds n)) (list_in kinds (n + size (block_in kinds n))))
       unfolding words_in
       words_opening k =
           let r : ℕ = n + size (block_in kinds n) in
@@ -293,6 +289,7 @@ module _ (kinds places : List ℕ) (t : Targets) where
 
       by_kinds : (A : Type 0) → (get_or kinds n 0 ≡ 0x83 → A) → (get_or kinds n 0 ≡ 0x90 → A) → (get_or kinds n 0 ≡ 0x91 → A) → A
       by_kinds A l c s = opening_kind (get_or kinds n 0) opening A l c s
+
       -- What was found of a UIF.
       module _ (k : get_or kinds n 0 ≡ 0x90) where
         uif_second : o.second ≡ suc n + size (list_in kinds (suc n))

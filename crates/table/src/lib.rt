@@ -98,20 +98,20 @@ fn next_place(file: &[u8], at: usize) -> usize
     requires { (at ≤ length file.now) × (length file.now ≤ longest) }
     ensures { result ≡ next file.now at }
 {
-    let size = size_at(file, at);
-    if size == 0 {
-        return file.len();
+    match size_at(file, at) {
+        0 => file.len(),
+        size => at + size,
     }
-    at + size
 }
 
-// The kinds and byte places of a program's instructions, from the front of each array.
+// The kinds and byte places of a program's first instructions, from the front of each array.
 #[derive(Clone, Copy)]
 struct Instructions {
     kinds: [u8; 1024],
     places: [u32; 1024],
 }
 
+// The first `count` instructions from a byte place on.
 #[tactic(auto, using(records::proofs::Walk::place_fits))]
 fn locate(file: &[u8], start: usize, count: usize) -> Instructions
     requires { (start ≤ length file.now) × (length file.now ≤ longest) × (count ≤ most_instructions) }

@@ -55,7 +55,7 @@ module _ (values links : List ℕ) (x : ℕ) where
   ends_at zero node d e = refl
   ends_at (suc m) node d e = ends_here m node d e
 
-  ends_missing : (m node d : ℕ) → (x ≡ get_or values node 0 → ⊥) → get_or links (slot_of node d x) 0 ≡ 0 → ending values links x (suc m) node d ≡ Missing (slot_of node d x)
+  pub ends_missing : (m node d : ℕ) → (x ≡ get_or values node 0 → ⊥) → get_or links (slot_of node d x) 0 ≡ 0 → ending values links x (suc m) node d ≡ Missing (slot_of node d x)
   unfolding ending
   ends_missing m node d n z = rw (ne_eqb _ _ n, eq-eqb _ _ z)
 

@@ -2,7 +2,7 @@
 // and a node of depth d parts the words below it by their bit d: a search looks at no more than 33 nodes.
 #![tactic(auto)]
 
-ghost use Rattle.std.specs.Prelude.{◌≡◌, ◌<◌, get_or, set};
+ghost use Rattle.std.specs.Prelude.{◌≡◌, ◌<◌, set};
 ghost use Rattle.tree.specs.Search.{slot_of, place_in, is_here, hung};
 
 // Where the search for a word ends.
@@ -18,17 +18,6 @@ pub enum Place {
 
 const MOST_NODES: u32 = 33;
 
-// The word of a node, 0 outside of the array.
-fn word_at(values: &[u32], node: u16) -> u32
-    ensures { result ≡ get_or values.now node 0 }
-{
-    let i = node as usize;
-    if values.len() <= i {
-        return 0;
-    }
-    values[i]
-}
-
 // The link of a node below which x lies. At depth 32 that goes by the bit above x.
 fn slot_of(node: u16, depth: u32, x: u32) -> usize
     requires { depth < 33 }
@@ -37,17 +26,8 @@ fn slot_of(node: u16, depth: u32, x: u32) -> usize
     2 * node as usize + ((x as u64 >> depth) % 2) as usize
 }
 
-// The node that a link holds, 0 for none, and outside of the array.
-fn linked(links: &[u16], slot: usize) -> u16
-    ensures { result ≡ get_or links.now slot 0 }
-{
-    if links.len() <= slot {
-        return 0;
-    }
-    links[slot]
-}
-
 // Where x is, or would hang, among the words from a place to `end`.
+#[tactic(auto, using(crate::proofs::Steps::ends))]
 pub fn place_of(values: &[u32; 1024], links: &[u16; 2048], from: u16, end: u16, x: u32) -> Place
     ensures { result ≡ place_in values.now links.now from end x }
 {
@@ -55,18 +35,15 @@ pub fn place_of(values: &[u32; 1024], links: &[u16; 2048], from: u16, end: u16, 
         return Place::Root;
     }
     let mut node = from;
-    let mut depth: u32 = 0;
-    while depth < MOST_NODES {
-        if x == word_at(values, node) {
+    for depth in 0..MOST_NODES {
+        if values.get(node as usize).copied().unwrap_or(0) == x {
             return Place::Here;
         }
         let slot = slot_of(node, depth, x);
-        let next = linked(links, slot);
-        if next == 0 {
-            return Place::Missing(slot);
+        match links.get(slot).copied().unwrap_or(0) {
+            0 => return Place::Missing(slot),
+            next => node = next,
         }
-        node = next;
-        depth += 1;
     }
     Place::Here
 }
@@ -75,22 +52,17 @@ pub fn place_of(values: &[u32; 1024], links: &[u16; 2048], from: u16, end: u16, 
 pub fn has_value(values: &[u32; 1024], links: &[u16; 2048], from: u16, end: u16, x: u32) -> bool
     ensures { result ≡ is_here (place_in values.now links.now from end x) }
 {
-    let place = place_of(values, links, from, end, x);
-    match place {
-        Place::Here => true,
-        Place::Root => false,
-        Place::Missing(_) => false,
-    }
+    matches!(place_of(values, links, from, end, x), Place::Here)
 }
 
 // Makes a link hold a node.
 fn set_link(links: &mut [u16], slot: usize, node: u16)
     ensures { links.new ≡ set links.old slot node }
 {
-    if links.len() <= slot {
-        return;
+    // The library does not say what a slice holds after a write through `get_mut`.
+    if slot < links.len() {
+        links[slot] = node;
     }
-    links[slot] = node;
 }
 
 // Hangs a new node where a search ended. Its own links may be those of a closed SWITCH's node, so they are cleared.
@@ -100,9 +72,7 @@ pub fn hang(links: &mut [u16; 2048], place: Place, node: u16)
     let first = 2 * node as usize;
     set_link(links, first, 0);
     set_link(links, first + 1, 0);
-    match place {
-        Place::Here => {}
-        Place::Root => {}
-        Place::Missing(slot) => set_link(links, slot, node),
+    if let Place::Missing(slot) = place {
+        set_link(links, slot, node);
     }
 }

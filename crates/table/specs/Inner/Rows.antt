@@ -1,14 +1,13 @@
 -- What the functions that write rows ask of their callers and promise them.
 -- Assumes nothing.
-use Rattle.std.specs.Prelude.{ℕ, ◌+◌, ◌*◌, ◌≤◌, ◌<◌, true, List, [], ◌∷◌, ◌≡◌, length, get_or}
+use Rattle.std.specs.Prelude.{ℕ, ◌≤◌, ◌<◌, List, ◌≡◌, length, get_or}
 use Rattle.format.specs.Records.{place_from}
 use Rattle.blocks.specs.Lists.{Items}
-use Rattle.blocks.specs.Nesting.{opens}
 use Rattle.blocks.specs.Run.{most_instructions}
 use Rattle.blocks.specs.declared.Targets.{Targets}
-use Rattle.blocks.specs.Table.{row_of, row_words, rows, words_of}
+use Rattle.blocks.specs.Table.{rows, words_of}
 use Rattle.table.specs.Prepared.{kind_from}
-use Rattle.lists.specs.Lists.{op_in, list_in}
+use Rattle.lists.specs.Lists.{op_in}
 
 module _ (kinds places : List ℕ) where
   -- The words of a list's rows from instruction n on.

@@ -1,7 +1,6 @@
 -- What is found of a block fits its row, and the rows of its lists are those of the block.
 use borrow.Author.Rules.{rules}
 use Rattle.std.proofs.Common.{◌<◌, arith}
-use Rattle.std.proofs.lemmas.Grind.{common_steps}
 use Rattle.table.proofs.Rows.{next_near, end_near, opening_jump_near, opening_label_near, inside_near, second_later, opens_once, opens_twice}
 use Rattle.table.proofs.Program.+block_opening.Goals as goal
 
