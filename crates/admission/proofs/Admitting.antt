@@ -5,16 +5,18 @@ use mathlib.Core.Bool.{Bool, true, false, cond}
 use mathlib.Core.List.{List, []}
 use Prim.Native.Nat.{ℕ, ◌*◌, ◌≤◌}
 use native.Mathlib.Omega.{arith}
-use borrow.Author.Tests.{ne_eqb, eqb-true, ltb-false}
+use borrow.Author.Tests.{eqb-true, ltb-false}
 use lib.Dec.{eqb, ltb}
 use Rattle.format.specs.Files.{lent_registers}
-use Rattle.format.specs.Refusals.{inputs_short, constants_short, registers_short, working_short, memory_long}
+use Rattle.std.specs.Prelude.{Ok, Err}
+use Rattle.format.specs.Refusals.{inputs_short, constants_short, registers_short, working_short, memory_long, number_of}
+use Rattle.format.specs.declared.refusals.Refusal.{Refusal}
+use Rattle.format.specs.declared.refusals.Refused.{Refused}
+use Rattle.format.proofs.Numbered.{numbered}
 use Rattle.blocks.specs.Table.{row_words}
-use Rattle.checker.specs.declared.Checked.{Checked}
-use Rattle.checker.specs.declared.Verdict.TheVariants.{Accepted, Refused}
+use Rattle.checker.specs.declared.program.Program.{Program}
 use Rattle.checker.specs.Check.{Outcome, accepted, refused, check_of, program_seen, examined_as, examined}
 use Rattle.checker.specs.Findings.{Seen}
-use Rattle.checker.specs.Inner.Held.{concluded}
 use Rattle.checker.proofs.Examining.{outcome_is}
 use Rattle.admission.specs.declared.Sizes.{Sizes}
 use Rattle.admission.specs.Admission.{work_short, lent_refusal, admitted, admission_of}
@@ -22,29 +24,23 @@ use Rattle.admission.specs.Admission.{work_short, lent_refusal, admitted, admiss
 -- ---- What the function answers
 
 -- The check of the file over words of its own, `none` before it; `before` is what was lent.
-module _ (file words none before : List ℕ) (c : Checked) (lent : Sizes) (said : examined_as c words ≡ examined (check_of file) none) where
-  concludes : (o : Outcome) → concluded c.verdict (program_seen c.program words []) ≡ o → check_of file ≡ o
-  concludes o e = sym (outcome_is c words none (check_of file) said) ∙ e
-
-  pub check_refuses : (number place : ℕ) (r : Checked) → c.verdict ≡ Refused number place → examined_as r before ≡ examined (refused number place) before
-      → examined_as r before ≡ examined (admission_of file lent) before
+module _ (file words none before : List ℕ) (lent : Sizes) where
+  pub check_refuses : (e : Refused ℕ) → examined_as (Err e) words ≡ examined (check_of file) none → examined_as (Err e) before ≡ examined (admission_of file lent) before
   unfolding admission_of
-  check_refuses number place r e is = is ∙ rw (concludes (refused number place) (rw e))
+  check_refuses e said = rw (← outcome_is (Err e) words none (check_of file) said)
 
-  module _ (n : ℕ) (e : c.verdict ≡ Accepted n) (due : ℕ) (due-is : due ≡ lent_refusal (program_seen c.program [] []) lent) where
-    abbrev seen : Seen
-    seen = program_seen c.program words []
+  module _ (p : Program) (said : examined_as (Ok p) words ≡ examined (check_of file) none) where
+    is_accepted : check_of file ≡ accepted (program_seen p words [])
+    is_accepted = sym (outcome_is (Ok p) words none (check_of file) said)
 
-    is_accepted : check_of file ≡ accepted seen
-    is_accepted = concludes (accepted seen) (rw e)
-
-    pub lent_refuses : (r : Checked) → (due ≡ 0 → ⊥) → examined_as r before ≡ examined (refused due 0) before → examined_as r before ≡ examined (admission_of file lent) before
+    pub lent_refuses : (refusal : Refusal) → number_of refusal ≡ lent_refusal (program_seen p [] []) lent
+        → examined_as (Err (record { refusal = refusal; place = 0 })) before ≡ examined (admission_of file lent) before
     unfolding admission_of lent_refusal
-    lent_refuses r h is = is ∙ rw (is_accepted, ← due-is, ne_eqb due 0 h)
+    lent_refuses refusal due = rw (is_accepted, ← due, numbered refusal)
 
-    pub admits : due ≡ 0 → examined_as c words ≡ examined (admission_of file lent) before
+    pub admits : 0 ≡ lent_refusal (program_seen p [] []) lent → examined_as (Ok p) words ≡ examined (admission_of file lent) before
     unfolding admission_of lent_refusal
-    admits h = said ∙ rw (is_accepted, ← due-is, h)
+    admits none_due = said ∙ rw (is_accepted, ← none_due)
 
 -- ---- What an admitted program says
 

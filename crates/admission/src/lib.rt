@@ -2,14 +2,15 @@
 #![tactic(auto)]
 
 ghost use Rattle.std.specs.Prelude.{◌≡◌, []};
+ghost use Rattle.format.specs.Refusals.{due};
 ghost use Rattle.checker.specs.Check.{program_seen, examined_as, examined};
 ghost use Rattle.admission.specs.Admission.{lent_refusal, admission_of};
 
 use blocks::ROW_WORDS;
+use checker::examine;
 use checker::program::Program;
-use checker::{Checked, Verdict, examine, refused};
 use format::files::REGISTER_WORDS;
-use format::refusals;
+use format::refusals::{Refusal, Refused};
 
 const MOST_MEMORY_WORDS: usize = 16384;
 
@@ -23,43 +24,41 @@ pub struct Sizes {
     pub memory: usize,
 }
 
-// The number of the refusal 20 to 24 that is due, 0 for none.
-fn refusal(program: Program, sizes: Sizes) -> u8
-    ensures { result ≡ lent_refusal (program_seen program [] []) sizes }
+// Refuses what is lent for a program with the first of 20 to 24 that is due.
+#[tactic(auto, unfolding(crate::specs::Admission::lent_refusal))]
+fn lent_refusal(program: Program, sizes: Sizes) -> Result<(), Refusal>
+    ensures { due result ≡ lent_refusal (program_seen program [] []) sizes }
 {
     if sizes.inputs < 4 * program.inputs as usize {
-        refusals::INPUTS_SHORT
+        Err(Refusal::InputsShort)
     } else if sizes.constants < 4 * program.constants as usize {
-        refusals::CONSTANTS_SHORT
+        Err(Refusal::ConstantsShort)
     } else if sizes.registers < REGISTER_WORDS {
-        refusals::REGISTERS_SHORT
+        Err(Refusal::RegistersShort)
     } else if sizes.work < ROW_WORDS * program.instructions as usize {
-        refusals::WORKING_SHORT
+        Err(Refusal::WorkingShort)
     } else if MOST_MEMORY_WORDS < sizes.memory {
-        refusals::MEMORY_LONG
+        Err(Refusal::MemoryLong)
     } else {
-        0
+        Ok(())
     }
 }
 
 // What the check says of a file, and the refusal for what is lent where it is accepted. The immediates' words are lent out where the
 // program is admitted; after a refusal the lent words stay.
-pub fn admit(file: &[u8], sizes: Sizes, immediates: &mut [u32; 1024]) -> Checked
+#[tactic(auto, using(crate::proofs::Admitting::lent_refuses, crate::proofs::Admitting::admits))]
+pub fn admit(
+    file: &[u8],
+    sizes: Sizes,
+    immediates: &mut [u32; 1024],
+) -> Result<Program, Refused<u32>>
     ensures { examined_as result immediates.new ≡ examined (admission_of file.now sizes) immediates.old }
 {
     let mut words = [0u32; 1024];
-    let checked = examine(file, &mut words);
-    let verdict = checked.verdict;
-    let program = checked.program;
-    match verdict {
-        Verdict::Refused(number, place) => refused(number, place),
-        Verdict::Accepted(_) => {
-            let number = refusal(program, sizes);
-            if number != 0 {
-                return refused(number, 0);
-            }
-            *immediates = words;
-            checked
-        }
+    let program = examine(file, &mut words)?;
+    if let Err(refusal) = lent_refusal(program, sizes) {
+        return Err(Refused { refusal, place: 0 });
     }
+    *immediates = words;
+    Ok(program)
 }

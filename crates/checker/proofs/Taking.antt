@@ -7,7 +7,7 @@ use Prim.Native.Nat.{ℕ, ◌+◌, ◌*◌, ◌^◌, ◌<◌, ◌≤◌}
 use native.Mathlib.Omega.{arith}
 use lib.Dec.{eqb, leb}
 use lib.ListN.{length, get_or, take}
-use borrow.Author.Tests.{eq-eqb, ne_eqb, le-leb, lt-leb, leb-false, eqb-false, not-false}
+use borrow.Author.Tests.{leb-false}
 use Rattle.format.specs.Records.{size_at}
 use Rattle.format.specs.Fields.{case_word}
 use Rattle.records.proofs.Walk.{size_fits}
@@ -16,7 +16,7 @@ use Rattle.format.specs.Refusals.{too_many, field_rule_broken, not_declared, num
 use Rattle.format.specs.declared.refusals.Refusal.{Refusal}
 use Rattle.format.proofs.Numbered.{numbered}
 use Rattle.blocks.specs.Control.{op_of}
-use Rattle.blocks.specs.Nesting.{goes, refused, rule}
+use Rattle.blocks.specs.Nesting.{rule}
 use Rattle.registers.specs.Rules.{operand_rules}
 use Rattle.registers.specs.Sets.{is_in}
 use Rattle.registers.specs.Found.{operands_found}
@@ -31,9 +31,6 @@ use Rattle.stack.specs.declared.Blocks.{Blocks}
 use Rattle.checker.specs.declared.program.Program.{Program}
 use Rattle.checker.specs.declared.walk.State.{State}
 use Rattle.checker.proofs.Keeping.{count_words}
-
-pub kept_rule : (r x : Bool) → r ≡ x → not r ≡ false → x ≡ true
-kept_rule r x e h = sym e ∙ not-false r h
 
 pub immediates_counted : (s : State) (words values : List ℕ) → Sound s → Padded s.program.immediates words → length (seen s words values).immediates ≡ 4 * s.program.immediates
 unfolding seen
@@ -84,15 +81,8 @@ module _ (p : Program) (b : Blocks) (none : b ≡ none_open) (words values : Lis
       }
 
 -- The place after a record.
-pub next_is : (file : List ℕ) (at size : ℕ) → size ≡ size_at file at → at + size ≡ at + size_at file at
-next_is file at size sized = ap (λ (n : ℕ). at + n) sized
-
-module _ (file : List ℕ) (at next : ℕ) (follows : next ≡ at + size_at file at) where
-  pub next_small : at ≤ length file → length file ≤ 65536 → next ≤ 65536
-  next_small h l = omega (arith, size_fits file at h)
-
-  pub next_within : at < length file → length file ≤ 65536 → next ≤ 65536
-  next_within h l = omega (arith, size_fits file at (omega arith))
+pub next_small : (file : List ℕ) (at next : ℕ) → next ≡ at + size_at file at → at ≤ length file → length file ≤ 65536 → next ≤ 65536
+next_small file at next follows h l = omega (arith, size_fits file at h)
 
 -- ---- Instructions
 

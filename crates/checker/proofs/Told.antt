@@ -7,7 +7,7 @@ use Rattle.std.specs.Prelude.{Result, Ok, Err}
 use Rattle.format.specs.Refusals.{number_of}
 use Rattle.format.specs.declared.refusals.Refused.{Refused}
 use Rattle.checker.specs.Findings.{Seen}
-use Rattle.checker.specs.Check.{Outcome, accepted, refused, check_of, Told, follows, breaks, told, told_of}
+use Rattle.checker.specs.Check.{Outcome, accepted, refused, check_of, follows, breaks, told, told_of}
 
 refused_by : (o : Outcome) (number place : ℕ) → breaks number place ≡ told_of o → o ≡ refused number place
 refused_by (accepted s) number place e = cc

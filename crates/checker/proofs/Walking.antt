@@ -7,7 +7,9 @@ use Prim.Native.Nat.{ℕ, zero, suc, ◌+◌, ◌-◌, ◌<◌, ◌≤◌}
 use native.Mathlib.Omega.{arith}
 use lib.Dec.{eqb, leb, ltb, eqb-suc-zero}
 use lib.ListN.{length, get_or}
-use borrow.Author.Tests.{lt-ltb, le-ltb, leb-false, eq-eqb, ne_eqb, eqb-true, eqb-false, not-false}
+use borrow.Author.Tests.{lt-ltb, le-ltb, leb-false, eq-eqb, ne_eqb, eqb-false, not-false}
+use Rattle.std.specs.Prelude.{Result}
+use Rattle.format.specs.declared.refusals.Refused.{Refused}
 use Rattle.format.specs.Kinds.{length_of}
 use Rattle.format.specs.Records.{longest, size_at}
 use Rattle.format.specs.Fields.{case_word}
@@ -21,7 +23,8 @@ use Rattle.registers.specs.Found.{operands_found}
 use Rattle.checker.specs.Findings.{Seen, nothing, Finding, taken, due, nested, with_instruction, declaration_finding, immediate_finding, instruction_finding, record_finding}
 use Rattle.checker.specs.Check.{accepted, refused, onward, walk, check_of, program_seen}
 use Rattle.nesting.specs.Inner.Held.{blocks_of}
-use Rattle.checker.specs.Inner.Held.{seen}
+use Rattle.checker.specs.Inner.Held.{outcome, seen, ended}
+use Rattle.checker.specs.declared.program.Program.{Program}
 use Rattle.checker.specs.declared.walk.State.{State}
 
 -- ---- A record that is taken
@@ -167,13 +170,9 @@ module _ (file : List ℕ) (at : ℕ) (s : Seen) (going : Going file at s) where
           one : size ≡ 1
           one = sized ∙ end_size file at (sym here ∙ end) (taken_whole s file at (seen t words values) (sym found))
 
-          pub walk_follows : at + size < length file → refused byte_after_end (at + size) ≡ check_of file
-          walk_follows f = let g : at + 1 < length file = omega (arith, one) in rw one (rw (end, lt-ltb (at + 1) (length file) g) at taken_turn)
-
           -- At END no block is open.
-          pub walk_accepts : length file ≤ at + size → accepted (program_seen t.program words []) ≡ check_of file
-          unfolding seen
-          walk_accepts f =
-              let g : length file ≤ at + 1 = omega (arith, one) in
+          pub walk_ended : (r : Result Program (Refused ℕ)) → outcome r words ≡ ended (at + size) (length file) (program_seen t.program words []) → outcome r words ≡ check_of file
+          unfolding ended seen
+          walk_ended r e =
               let closed : blocks_of t.blocks values ≡ [] = end_closed s file at (seen t words values) (sym found) (sym here ∙ end) in
-              ap (λ (σ : List Open). accepted (program_seen t.program words σ)) (sym closed) ∙ rw (end, le-ltb (at + 1) (length file) g) at taken_turn
+              e ∙ rw (one, ← closed) (rw end at taken_turn)

@@ -18,8 +18,7 @@ pub fn check(file: &[u8]) -> Result<u32, Refused<u32>>
     let mut words = [0u32; 1024];
     let mut values = [0u32; 1024];
     let mut links = [0u16; 2048];
-    let program = walk::walk(file, &mut words, &mut values, &mut links)?;
-    Ok(program.instructions)
+    Ok(walk::walk(file, &mut words, &mut values, &mut links)?.instructions)
 }
 
 // The same with what a run needs of an accepted program, whose immediates' words are lent out, in order, and 0 after them. Where

@@ -1,14 +1,14 @@
 // The walk over the records: each is taken, or refused with the lowest number that applies.
-ghost use Rattle.std.specs.Prelude.{◌≡◌, List, ℕ, ◌+◌, ◌*◌, ◌<◌, ◌≤◌, length, take, IfOk};
+ghost use Rattle.std.specs.Prelude.{◌≡◌, List, ℕ, ◌+◌, ◌*◌, ◌<◌, ◌≤◌, [], length, take, IfOk};
 ghost use Rattle.format.specs.Records.{size_at};
 ghost use Rattle.format.specs.Fields.{case_word};
 ghost use Rattle.format.specs.Refusals.{due};
 ghost use Rattle.blocks.specs.Control.{op_of};
 ghost use Rattle.blocks.specs.Nesting.{rule};
 ghost use Rattle.checker.specs.Findings.{nothing, nested, declaration_finding, immediate_finding, instruction_finding, record_finding};
-ghost use Rattle.checker.specs.Check.{check_of};
+ghost use Rattle.checker.specs.Check.{program_seen, check_of};
 ghost use Rattle.nesting.specs.Inner.Held.{blocks_of, Trees};
-ghost use Rattle.checker.specs.Inner.Held.{outcome, seen, finding_of, operand_refusal, Sound, Padded, Stands};
+ghost use Rattle.checker.specs.Inner.Held.{outcome, seen, finding_of, operand_refusal, ended, Sound, Padded, Stands};
 
 use crate::kept;
 use crate::program::Program;
@@ -187,6 +187,22 @@ fn started() -> State
     }
 }
 
+// What a program comes to whose END is followed by the place `next`, in a file of this length.
+#[tactic(auto, unfolding(crate::specs::Inner::Held::ended))]
+fn ended(program: Program, next: usize, end: usize) -> Result<Program, Refused<u32>>
+    requires { next ≤ 65536 }
+    ensures found { (words : List ℕ) → outcome result words ≡ ended next end (program_seen program words []) }
+    ensures same { IfOk result (λ p. p ≡ program) }
+{
+    if next < end {
+        return Err(Refused {
+            refusal: Refusal::ByteAfterEnd,
+            place: next as u32,
+        });
+    }
+    Ok(program)
+}
+
 // The whole check. The immediates' words go to the first of `words`, which are 0 before; `values` holds the words of CASEs,
 // `links` the links of their trees.
 pub fn walk(
@@ -220,13 +236,7 @@ pub fn walk(
             }
         }
         if readers::byte_at(file, at) == END {
-            if next < end {
-                return Err(Refused {
-                    refusal: Refusal::ByteAfterEnd,
-                    place: next as u32,
-                });
-            }
-            return Ok(s.program);
+            return ended(s.program, next, end);
         }
         at = next;
     }

@@ -1,7 +1,7 @@
 -- What the checker's own words stand for while it walks.
 -- Assumes nothing.
-use Rattle.std.specs.Prelude.{ℕ, ◌-◌, ◌*◌, ◌≤◌, ◌≡◌, List, [], cond, not, leb, length, drop, replicate, Result, Ok, Err}
-use Rattle.format.specs.Refusals.{too_many, field_rule_broken, not_declared, number_of}
+use Rattle.std.specs.Prelude.{ℕ, ◌-◌, ◌*◌, ◌≤◌, ◌≡◌, List, [], cond, not, leb, ltb, length, drop, replicate, Result, Ok, Err}
+use Rattle.format.specs.Refusals.{byte_after_end, too_many, field_rule_broken, not_declared, number_of}
 use Rattle.format.specs.declared.refusals.Refusal.{Refusal}
 use Rattle.format.specs.declared.refusals.Refused.{Refused}
 use Rattle.blocks.specs.Run.{most_instructions}
@@ -33,6 +33,10 @@ operand_refusal p kind file at =
     (cond (not (operand_rules kind file at)) field_rule_broken
     (cond (not (operands_found kind (is_in p.declared) (4 * p.immediates) file at)) not_declared
     0))
+
+-- What a program comes to whose END is followed by the place `next`, in a file of this length: refusal 2, or it is accepted.
+unfoldable pub ended : ℕ → ℕ → Seen → Outcome
+ended next end s = cond (ltb next end) (refused byte_after_end next) (accepted s)
 
 pub record Sound (s : State) : Type 0 where
   pub instructions : s.program.instructions ≤ most_instructions

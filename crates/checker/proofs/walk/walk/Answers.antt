@@ -1,7 +1,7 @@
 -- Each way out of a turn of the walk is a law of it.
 use Rattle.std.proofs.Common.{arith}
 use Rattle.records.proofs.Walk.{size_fits}
-use Rattle.checker.proofs.Walking.{check_long, check_start, walk_end, walk_refused, walk_follows, walk_accepts, walk_goes, walk_less}
+use Rattle.checker.proofs.Walking.{check_long, check_start, walk_end, walk_refused, walk_ended, walk_goes, walk_less}
 use Rattle.checker.proofs.walk.walk.Goals as goal
 
 pub returns-then-end-gt-LONGEST-clause-found : goal.returns-then-end-gt-LONGEST-clause-found
@@ -22,15 +22,13 @@ overflow_add-next c = omega (arith, c.size_at.ensures, size_fits c.args.file.now
 pub returns-in-Err-clause-found : goal.returns-in-Err-clause-found
 returns-in-Err-clause-found c = walk_refused _ _ _ c.loop-at.invariant.going c.loop-at-test.true _ c.in-Err.ensures.found
 
-pub returns-then-next-end-clause-found : goal.returns-then-next-end-clause-found
-returns-then-next-end-clause-found c =
-    walk_follows _ _ _ c.loop-at.invariant.going c.loop-at-test.true _ _ _ c.in-Ok.ensures.found _ _ c.byte_at.ensures c.size_at.ensures
-    c.if-byte_at.true c.if-next-end.true
+pub ended-requires : goal.ended-requires
+ended-requires c = omega (arith, c.size_at.ensures, size_fits c.args.file.now c.loop-at.at c.loop-at.invariant.inside)
 
 pub returns-then-byte_at-clause-found : goal.returns-then-byte_at-clause-found
 returns-then-byte_at-clause-found c =
-    walk_accepts _ _ _ c.loop-at.invariant.going c.loop-at-test.true _ _ _ c.in-Ok.ensures.found _ _ c.byte_at.ensures c.size_at.ensures
-    c.if-byte_at.true c.if-next-end.false
+    walk_ended _ _ _ c.loop-at.invariant.going c.loop-at-test.true _ _ _ c.in-Ok.ensures.found _ _ c.byte_at.ensures c.size_at.ensures
+    c.if-byte_at.true _ (c.ended.ensures.found _)
 
 pub loop-at-smaller : goal.loop-at-smaller
 loop-at-smaller c =

@@ -9,7 +9,7 @@ invariant-loop-at l = record {
   going : Going l.file l.at (seen l.s l.words l.values);
   stands : Stands l.s l.words l.values l.links;
   inside : l.at ≤ length l.file;
-  long : length l.file ≤ 65536
+  long : length l.file ≤ 65536;
 }
 
 abbrev pub decreases-loop-at : goal.decreases-loop-at
