@@ -1,4 +1,3 @@
-pub mod Records
 pub mod Keeping
 pub mod Taking
 pub mod Walking

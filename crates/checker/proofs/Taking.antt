@@ -7,32 +7,30 @@ use Prim.Native.Nat.{ℕ, ◌+◌, ◌*◌, ◌^◌, ◌<◌, ◌≤◌}
 use native.Mathlib.Omega.{arith}
 use lib.Dec.{eqb, leb}
 use lib.ListN.{length, get_or, take}
-use borrow.Author.Tests.{eq-eqb, ne_eqb, le-leb, lt-leb, leb-false, eqb-false, not-false}
+use borrow.Author.Tests.{leb-false}
 use Rattle.format.specs.Records.{size_at}
 use Rattle.format.specs.Fields.{case_word}
 use Rattle.records.proofs.Walk.{size_fits}
-use Rattle.format.specs.Refusals.{too_many, field_rule_broken, not_declared}
+use Rattle.std.specs.Prelude.{Result, Ok, Err}
+use Rattle.format.specs.Refusals.{too_many, field_rule_broken, not_declared, number_of}
+use Rattle.format.specs.declared.refusals.Refusal.{Refusal}
+use Rattle.format.proofs.Numbered.{numbered}
 use Rattle.blocks.specs.Control.{op_of}
-use Rattle.blocks.specs.Nesting.{goes, refused, rule}
+use Rattle.blocks.specs.Nesting.{rule}
 use Rattle.registers.specs.Rules.{operand_rules}
 use Rattle.registers.specs.Sets.{is_in}
 use Rattle.registers.specs.Found.{operands_found}
-use Rattle.checker.specs.Findings.{nothing, Finding, due, with_instruction, nested, instruction_finding}
+use Rattle.checker.specs.Findings.{nothing, Finding, taken, due, with_instruction, nested, instruction_finding}
 use Rattle.checker.specs.Check.{program_seen}
 use Rattle.stack.specs.Arrays.{none_open}
-use Rattle.nesting.specs.Left.{nest_of}
-use Rattle.nesting.specs.Inner.Held.{blocks_of, Trees}
-use Rattle.nesting.proofs.Rules.{nest_says, nest_sound, nest_held, nest_trees, nest_stays, none_blocks, none_sound, none_held}
-use Rattle.checker.specs.Inner.Held.{seen, finding_of, operand_refusal, instructed, taken_by, taken_of, Padded, Sound}
+use Rattle.nesting.specs.Left.{nested_as, nest_of}
+use Rattle.nesting.specs.Inner.Held.{blocks_of, ruling_of, Trees}
+use Rattle.nesting.proofs.Rules.{nest_says, nest_after, none_blocks, none_sound, none_held, none_trees}
+use Rattle.checker.specs.Inner.Held.{seen, finding_of, operand_refusal, Padded, Sound, Stands}
 use Rattle.stack.specs.declared.Blocks.{Blocks}
-use Rattle.nesting.specs.declared.Nested.{Nested}
 use Rattle.checker.specs.declared.program.Program.{Program}
 use Rattle.checker.specs.declared.walk.State.{State}
-use Rattle.checker.specs.declared.walk.Taken.{Taken}
 use Rattle.checker.proofs.Keeping.{count_words}
-
-pub kept_rule : (r x : Bool) → r ≡ x → not r ≡ false → x ≡ true
-kept_rule r x e h = sym e ∙ not-false r h
 
 pub immediates_counted : (s : State) (words values : List ℕ) → Sound s → Padded s.program.immediates words → length (seen s words values).immediates ≡ 4 * s.program.immediates
 unfolding seen
@@ -43,79 +41,58 @@ immediates_counted s words values h p = count_words words s.program.immediates h
 pub words_counted : (n : ℕ) (words : List ℕ) → n ≤ 256 → Padded n words → 4 * n ≡ length (take (4 * n) words)
 words_counted n words h p = sym (count_words words n h p)
 
-pub sound_declaration : (s : State) (q : Program) → Sound s → q.immediates ≡ s.program.immediates → q.instructions ≡ s.program.instructions
-    → Sound (record { program = q; blocks = s.blocks })
-sound_declaration s q h e f =
-    let a = h.instructions in
-    let b = h.immediates in
-    let c = h.held in
-    record { instructions = omega arith; immediates = omega arith; held = omega arith; blocks = h.blocks }
+module _ (s : State) (q : Program) (words values links : List ℕ) (stands : Stands s words values links) where
+  pub stands_declaration : q.immediates ≡ s.program.immediates → q.instructions ≡ s.program.instructions → Stands (record { program = q; blocks = s.blocks }) words values links
+  stands_declaration e f =
+      let h = stands.sound in
+      let a = h.instructions in
+      let b = h.immediates in
+      let c = h.held in
+      record {
+        sound = record { instructions = omega arith; immediates = omega arith; held = omega arith; blocks = h.blocks };
+        padded = rw e stands.padded;
+        trees = stands.trees;
+      }
 
-pub sound_immediate : (s : State) (q : Program) → Sound s → q.immediates ≡ s.program.immediates + 1 → q.instructions ≡ s.program.instructions → s.program.immediates < 256
-    → Sound (record { program = q; blocks = s.blocks })
-sound_immediate s q h e f l =
-    let a = h.instructions in
-    let c = h.held in
-    record { instructions = omega arith; immediates = omega arith; held = omega arith; blocks = h.blocks }
+  pub stands_immediate : (after : List ℕ) → q.immediates ≡ s.program.immediates + 1 → q.instructions ≡ s.program.instructions → s.program.immediates < 256 → Padded q.immediates after
+      → Stands (record { program = q; blocks = s.blocks }) after values links
+  stands_immediate after e f l padded =
+      let h = stands.sound in
+      let a = h.instructions in
+      let c = h.held in
+      record {
+        sound = record { instructions = omega arith; immediates = omega arith; held = omega arith; blocks = h.blocks };
+        padded = padded;
+        trees = stands.trees;
+      }
 
 -- Nothing is open, and nothing has been counted.
-module _ (p : Program) (b : Blocks) (none : b ≡ none_open) where
-  pub nothing_seen : (words values : List ℕ) → program_seen p words [] ≡ nothing → program_seen p words (blocks_of b values) ≡ nothing
-  nothing_seen words values e = rw (none_blocks b none values) e
+module _ (p : Program) (b : Blocks) (none : b ≡ none_open) (words values : List ℕ) where
+  pub nothing_seen : program_seen p words [] ≡ nothing → program_seen p words (blocks_of b values) ≡ nothing
+  nothing_seen e = rw (none_blocks b none values) e
 
-  pub nothing_counted : p.immediates ≡ 0 → p.instructions ≡ 0 → Sound (record { program = p; blocks = b })
-  nothing_counted i n =
-      record { instructions = omega arith; immediates = omega arith; held = omega (arith, none_held b none); blocks = none_sound b none }
-
--- The trees of blocks that stay as they were.
-pub trees_same : (a b : Blocks) (values links : List ℕ) → a ≡ b → Trees b values links → Trees a values links
-trees_same a b values links e h = rw e h
-
-pub padded_same : (k n : ℕ) (words : List ℕ) → k ≡ n → Padded n words → Padded k words
-padded_same k n words e h = rw e h
+  pub nothing_stands : (links : List ℕ) → p.immediates ≡ 0 → p.instructions ≡ 0 → Padded 0 words → length values ≡ 1024 → length links ≡ 2048
+      → Stands (record { program = p; blocks = b }) words values links
+  nothing_stands links i n padded v l =
+      record {
+        sound = record { instructions = omega arith; immediates = omega arith; held = omega (arith, none_held b none); blocks = none_sound b none };
+        padded = rw i padded;
+        trees = none_trees b none values links v l;
+      }
 
 -- The place after a record.
-pub next_is : (file : List ℕ) (at size : ℕ) → size ≡ size_at file at → at + size ≡ at + size_at file at
-next_is file at size sized = ap (λ (n : ℕ). at + n) sized
-
-module _ (file : List ℕ) (at next : ℕ) (follows : next ≡ at + size_at file at) where
-  pub next_small : at ≤ length file → length file ≤ 65536 → next ≤ 65536
-  next_small h l = omega (arith, size_fits file at h)
-
-  pub next_within : at < length file → length file ≤ 65536 → next ≤ 65536
-  next_within h l = omega (arith, size_fits file at (omega arith))
+pub next_small : (file : List ℕ) (at next : ℕ) → next ≡ at + size_at file at → at ≤ length file → length file ≤ 65536 → next ≤ 65536
+next_small file at next follows h l = omega (arith, size_fits file at h)
 
 -- ---- Instructions
 
-module _ (p : Program) (kind : ℕ) (file : List ℕ) (at : ℕ) where
-  pub operand_6 : 1024 ≤ p.instructions → too_many ≡ operand_refusal p kind file at
-  unfolding operand_refusal
-  operand_6 h = rw (le-leb 1024 p.instructions h)
-
-  module _ (few : p.instructions < 1024) (r : Bool) (rules : r ≡ operand_rules kind file at) where
-    pub operand_7 : not r ≡ true → field_rule_broken ≡ operand_refusal p kind file at
-    unfolding operand_refusal
-    operand_7 e = rw (lt-leb 1024 p.instructions few, ← rules, e)
-
-    module _ (kept : not r ≡ false) (f : Bool) (found : f ≡ operands_found kind (is_in p.declared) (4 * p.immediates) file at) where
-      pub operand_9 : not f ≡ true → not_declared ≡ operand_refusal p kind file at
-      unfolding operand_refusal
-      operand_9 e = rw (lt-leb 1024 p.instructions few, ← rules, kept, ← found, e)
-
-      pub operand_none : not f ≡ false → 0 ≡ operand_refusal p kind file at
-      unfolding operand_refusal
-      operand_none e = rw (lt-leb 1024 p.instructions few, ← rules, kept, ← found, e)
-
-  -- An instruction that none of 6, 7 and 9 applies to.
-  room_in : operand_refusal p kind file at ≡ 0 → p.instructions < 1024
-  unfolding operand_refusal
-  room_in e = leb-false 1024 p.instructions (first (leb 1024 p.instructions) _ e) where
-    first : (b : Bool) (k : ℕ) → cond b too_many k ≡ 0 → b ≡ false
-    first true k e = absurd (omega arith)
-    first false k e = refl
-
-pub room_left : (p : Program) (kind : ℕ) (file : List ℕ) (at m : ℕ) → m ≡ operand_refusal p kind file at → m ≡ 0 → p.instructions < 1024
-room_left p kind file at m e z = room_in p kind file at (sym e ∙ z)
+-- An instruction that none of 6, 7 and 9 applies to.
+pub room_left : (p : Program) (kind : ℕ) (file : List ℕ) (at : ℕ) → 0 ≡ operand_refusal p kind file at → p.instructions < 1024
+unfolding operand_refusal
+room_left p kind file at e = leb-false 1024 p.instructions (first (leb 1024 p.instructions) _ (sym e)) where
+  first : (b : Bool) (k : ℕ) → cond b too_many k ≡ 0 → b ≡ false
+  first true k e = absurd (omega arith)
+  first false k e = refl
 
 module _ (s : State) (kind : ℕ) (words values file : List ℕ) (at : ℕ) (padded : Padded s.program.immediates words) (sound : Sound s) (here : kind ≡ get_or file at 0) where
   whole : instruction_finding (seen s words values) file at
@@ -134,75 +111,57 @@ module _ (s : State) (kind : ℕ) (words values file : List ℕ) (at : ℕ) (pad
       by false false true f = refl
       by false false false f = refl
 
-  pub passed_operands : operand_refusal s.program kind file at ≡ 0
+  passed_operands : 0 ≡ operand_refusal s.program kind file at
       → nested (seen s words values) (rule (op_of kind) (case_word (take (4 * s.program.immediates) words) file at) (blocks_of s.blocks values)) ≡ instruction_finding (seen s words values) file at
-  passed_operands e = sym (whole ∙ rw (eq-eqb _ _ e))
+  passed_operands e = sym (whole ∙ rw (← e))
 
-  pub refused_operands : (m : ℕ) → m ≡ operand_refusal s.program kind file at → (m ≡ 0 → ⊥) → (f : Finding)
-      → cond (eqb m 0) f (due m) ≡ instruction_finding (seen s words values) file at
-  refused_operands m e h f = rw (ne_eqb m 0 h) (sym (whole ∙ rw (← e, ne_eqb m 0 h)))
+  pub refused_operands : (r : Refusal) → number_of r ≡ operand_refusal s.program kind file at → due (number_of r) ≡ instruction_finding (seen s words values) file at
+  refused_operands r e = sym (whole ∙ rw (← e, numbered r))
 
-module _ (s : State) (n : Nested) where
-  pub nested_refused : (n.refusal ≡ 0 → ⊥) → record { refusal = n.refusal; state = s } ≡ taken_of s n
-  nested_refused h = rw (ne_eqb _ _ h)
+  -- The rules of nesting come last.
+  pub nested_found : 0 ≡ operand_refusal s.program kind file at → (r : Result State Refusal) (after : List ℕ) (x : ℕ)
+      → finding_of r words after ≡ nested (seen s words values) (rule (op_of kind) x (blocks_of s.blocks values))
+      → x ≡ case_word (take (4 * s.program.immediates) words) file at
+      → finding_of r words after ≡ instruction_finding (seen s words values) file at
+  nested_found e r after x says word =
+      says ∙ ap (λ (y : ℕ). nested (seen s words values) (rule (op_of kind) y (blocks_of s.blocks values))) word ∙ passed_operands e
 
-  pub nested_taken : n.refusal ≡ 0 → record { refusal = 0; state = record { program = instructed s.program; blocks = n.blocks } } ≡ taken_of s n
-  nested_taken e = rw (eq-eqb _ _ e)
+abbrev instructed : Program → Program
+instructed p =
+    record {
+      declared = p.declared;
+      immediates = p.immediates;
+      inputs = p.inputs;
+      constants = p.constants;
+      start = p.start;
+      instructions = p.instructions + 1;
+    }
 
-  module _ (t : Taken) (is : t ≡ taken_of s n) where
-    pub nested_immediates : t.state.program.immediates ≡ s.program.immediates
-    nested_immediates = rw is (by (eqb n.refusal 0)) where
-      by : (b : Bool) → (taken_by b s n).state.program.immediates ≡ s.program.immediates
-      by true = refl
-      by false = refl
+-- The arrays stand as they should, and `nest` does what `rule` says.
+module _ (s : State) (r : Result Blocks Refusal) (values links values' links' : List ℕ) (kind x : ℕ)
+    (nests : record { nested = nested_as r; values = values'; links = links' } ≡ nest_of s.blocks values links kind x)
+    (sound : Sound s) (few : s.program.instructions < 1024) (trees : Trees s.blocks values links) (small : x < 2 ^ 32)
+  where
+    room : s.blocks.held < 1024
+    room = omega (arith, sound.held)
 
-    -- The arrays stand as they should, and `nest` does what `rule` says.
-    module _ (values links values' links' : List ℕ) (kind x : ℕ) (nests : record { nested = n; values = values'; links = links' } ≡ nest_of s.blocks values links kind x)
-        (sound : Sound s) (few : s.program.instructions < 1024) (trees : Trees s.blocks values links) (small : x < 2 ^ 32)
-      where
-        room : s.blocks.held < 1024
-        room = omega (arith, sound.held)
+    says : ruling_of (nested_as r) values' ≡ rule (op_of kind) x (blocks_of s.blocks values)
+    says = nest_says s.blocks values links kind x sound.blocks room trees small r values' links' nests
 
-        pub nested_trees : Trees t.state.blocks values' links'
-        nested_trees = rw is (by (eqb n.refusal 0) refl) where
-          h : Trees n.blocks values' links'
-          h = nest_trees s.blocks values links kind x sound.blocks room trees small n values' links' nests
+    pub nested_due : (refusal : Refusal) → r ≡ Err refusal → (words : List ℕ) → due (number_of refusal) ≡ nested (seen s words values) (rule (op_of kind) x (blocks_of s.blocks values))
+    nested_due refusal e words = ap (nested (seen s words values)) (rw e at says)
 
-          by : (b : Bool) → eqb n.refusal 0 ≡ b → Trees (taken_by b s n).state.blocks values' links'
-          by true e = h
-          by false e = rw (nest_stays s.blocks values links kind x sound.blocks room trees small n values' links' nests (eqb-false n.refusal 0 e)) at h
+    module _ (c : Blocks) (e : r ≡ Ok c) (words : List ℕ) where
+      pub nested_taken : taken (seen (record { program = instructed s.program; blocks = c }) words values') ≡ nested (seen s words values) (rule (op_of kind) x (blocks_of s.blocks values))
+      unfolding with_instruction seen
+      nested_taken = ap (nested (seen s words values)) (rw e at says)
 
-        pub nested_sound : Sound t.state
-        nested_sound = rw is (by (eqb n.refusal 0)) where
-          by : (b : Bool) → Sound (taken_by b s n).state
-          by true =
-              let c = sound.held in
-              record {
-                instructions = omega arith;
-                immediates = sound.immediates;
-                held = omega (arith, nest_held s.blocks values links kind x sound.blocks room trees small n values' links' nests);
-                blocks = nest_sound s.blocks values links kind x sound.blocks room trees small n values' links' nests;
-              }
-          by false = sound
-
-        pub nested_says : (words : List ℕ) → finding_of t words values' ≡ nested (seen s words values) (rule (op_of kind) x (blocks_of s.blocks values))
-        unfolding with_instruction seen
-        nested_says words =
-            rw is (by (eqb n.refusal 0) refl ∙ ap (nested (seen s words values)) (nest_says s.blocks values links kind x sound.blocks room trees small n values' links' nests)) where
-              by : (b : Bool) → eqb n.refusal 0 ≡ b → finding_of (taken_by b s n) words values' ≡ nested (seen s words values) (cond b (goes (blocks_of n.blocks values')) (refused n.refusal))
-              by true e = refl
-              by false e = rw e refl
-
--- The rules of nesting come last.
-pub nested_found : (s : State) (t : Taken) (words values after file : List ℕ) (at kind x m : ℕ)
-    → finding_of t words after ≡ nested (seen s words values) (rule (op_of kind) x (blocks_of s.blocks values))
-    → x ≡ case_word (take (4 * s.program.immediates) words) file at
-    → kind ≡ get_or file at 0
-    → m ≡ operand_refusal s.program kind file at
-    → m ≡ 0
-    → Padded s.program.immediates words
-    → Sound s
-    → finding_of t words after ≡ instruction_finding (seen s words values) file at
-nested_found s t words values after file at kind x m says word here number none padded sound =
-    says ∙ ap (λ (y : ℕ). nested (seen s words values) (rule (op_of kind) y (blocks_of s.blocks values))) word
-    ∙ passed_operands s kind words values file at padded sound here (sym number ∙ none)
+      pub nested_stands : Stands s words values links → Stands (record { program = instructed s.program; blocks = c }) words values' links'
+      nested_stands stands =
+          let a = nest_after s.blocks values links kind x sound.blocks room trees small r values' links' nests c e in
+          let h = sound.held in
+          record {
+            sound = record { instructions = omega arith; immediates = sound.immediates; held = omega (arith, a.held); blocks = a.sound };
+            padded = stands.padded;
+            trees = a.trees;
+          }

@@ -7,7 +7,9 @@ use Prim.Native.Nat.{ℕ, zero, suc, ◌+◌, ◌-◌, ◌<◌, ◌≤◌}
 use native.Mathlib.Omega.{arith}
 use lib.Dec.{eqb, leb, ltb, eqb-suc-zero}
 use lib.ListN.{length, get_or}
-use borrow.Author.Tests.{lt-ltb, le-ltb, leb-false, eq-eqb, ne_eqb, eqb-true, eqb-false, not-false}
+use borrow.Author.Tests.{lt-ltb, le-ltb, leb-false, eq-eqb, ne_eqb, eqb-false, not-false}
+use Rattle.std.specs.Prelude.{Result}
+use Rattle.format.specs.declared.refusals.Refused.{Refused}
 use Rattle.format.specs.Kinds.{length_of}
 use Rattle.format.specs.Records.{longest, size_at}
 use Rattle.format.specs.Fields.{case_word}
@@ -19,16 +21,11 @@ use Rattle.blocks.specs.Nesting as nesting
 use Rattle.registers.specs.Rules.{operand_rules}
 use Rattle.registers.specs.Found.{operands_found}
 use Rattle.checker.specs.Findings.{Seen, nothing, Finding, taken, due, nested, with_instruction, declaration_finding, immediate_finding, instruction_finding, record_finding}
-use Rattle.checker.specs.Check.{accepted, refused, onward, walk, check_of, breaks, told, told_of, program_seen}
+use Rattle.checker.specs.Check.{accepted, refused, onward, walk, check_of, program_seen}
 use Rattle.nesting.specs.Inner.Held.{blocks_of}
-use Rattle.checker.specs.Inner.Held.{concluded, seen, end_of, way_after, Tells, Turned}
-use Rattle.checker.specs.declared.Verdict.{Verdict}
-use Rattle.checker.specs.declared.Verdict.TheVariants.{Accepted, Refused}
+use Rattle.checker.specs.Inner.Held.{outcome, seen, ended}
 use Rattle.checker.specs.declared.program.Program.{Program}
 use Rattle.checker.specs.declared.walk.State.{State}
-use Rattle.checker.specs.declared.walk.Turn.{Turn}
-use Rattle.checker.specs.declared.walk.Way.{Way}
-use Rattle.checker.specs.declared.walk.Way.TheVariants.{On, Ended}
 
 -- ---- A record that is taken
 
@@ -106,90 +103,10 @@ end_closed s file at u found e =
     in
     ap (λ (v : Seen). v.blocks) p.after ∙ end_rule _ s.blocks p.blocks r
 
--- ---- A turn of the walk
-
-not_on : {A : Type 0} {v : Verdict} → Ended v ≡ On → A
-not_on e = let z : ◌≡◌ {A = ℕ} 0 1 = cc in absurd (omega arith)
-
-module _ (n next end : ℕ) where
-  pub end_follows : next < end → Refused byte_after_end next ≡ end_of n next end
-  unfolding end_of
-  end_follows h = rw (lt-ltb next end h)
-
-  pub end_last : end ≤ next → Accepted n ≡ end_of n next end
-  unfolding end_of
-  end_last h = rw (le-ltb next end h)
-
-  end_tells : Tells (end_of n next end) n
-  unfolding end_of
-  end_tells = by (ltb next end) where
-    by : (b : Bool) → Tells (cond b (Refused byte_after_end next) (Accepted n)) n
-    by true = tt
-    by false = refl
-
-module _ (m kind n at next end : ℕ) where
-  pub way_refused : (m ≡ 0 → ⊥) → Ended (Refused m at) ≡ way_after m kind n at next end
-  unfolding way_after
-  way_refused z = rw (ne_eqb m 0 z)
-
-  pub way_on : m ≡ 0 → (kind ≡ 0x89 → ⊥) → On ≡ way_after m kind n at next end
-  unfolding way_after
-  way_on z e = rw (eq-eqb m 0 z, ne_eqb kind 0x89 e)
-
-  pub way_ends : (v : Verdict) → m ≡ 0 → kind ≡ 0x89 → v ≡ end_of n next end → Ended v ≡ way_after m kind n at next end
-  unfolding way_after
-  way_ends v z e q = rw (eq-eqb m 0 z, eq-eqb kind 0x89 e, q)
-
 -- The record of an END has no body.
 end_size : (file : List ℕ) (at : ℕ) → get_or file at 0 ≡ 0x89 → (size_at file at ≡ 0 → ⊥) → size_at file at ≡ 1
 unfolding length_of
 end_size file at e some = (sized_whole file at some).size ∙ ap (λ (k : ℕ). 1 + length_of k) e
-
-module _ (s : Seen) (file : List ℕ) (at next m kind : ℕ) (t : State) (words values : List ℕ)
-    (follows : next ≡ at + size_at file at)
-    (found : cond (eqb m 0) (taken (seen t words values)) (due m) ≡ record_finding s file at)
-    (here : kind ≡ get_or file at 0)
-  where
-    is_taken : eqb m 0 ≡ true → record_finding s file at ≡ taken (seen t words values)
-    is_taken z = sym (rw z at found)
-
-    -- A byte after END is the next one.
-    end_next : eqb m 0 ≡ true → eqb kind 0x89 ≡ true → next ≡ at + 1
-    end_next z e =
-        let one = end_size file at (sym here ∙ eqb-true kind 0x89 e) (taken_whole s file at (seen t words values) (is_taken z)) in
-        omega arith
-
-    -- At END no block is open.
-    ends : eqb m 0 ≡ true → eqb kind 0x89 ≡ true → concluded (end_of t.program.instructions next (length file)) (program_seen t.program words [])
-        ≡ cond (ltb (at + 1) (length file)) (refused byte_after_end (at + 1)) (accepted (seen t words values))
-    unfolding seen end_of
-    ends z e = rw (end_next z e) (by (ltb (at + 1) (length file))) where
-      closed : blocks_of t.blocks values ≡ []
-      closed = end_closed s file at (seen t words values) (is_taken z) (sym here ∙ eqb-true kind 0x89 e)
-
-      by : (b : Bool) → concluded (cond b (Refused byte_after_end (at + 1)) (Accepted t.program.instructions)) (program_seen t.program words []) ≡ cond b (refused byte_after_end (at + 1)) (accepted (seen t words values))
-      by true = refl
-      by false = ap (λ (σ : List Open). accepted (program_seen t.program words σ)) (sym closed)
-
-    pub turned : (w : Way) → w ≡ way_after m kind t.program.instructions at next (length file) → Turned s file at (record { state = t; way = w }) words values
-    unfolding way_after
-    turned w q = rw q (by (eqb m 0) refl (eqb kind 0x89) refl) where
-      by : (a : Bool) → eqb m 0 ≡ a → (b : Bool) → eqb kind 0x89 ≡ b
-          → Turned s file at (record { state = t; way = cond a (cond b (Ended (end_of t.program.instructions next (length file))) On) (Ended (Refused m at)) }) words values
-      by false z b e = record { leads = λ rest. rw (← found, z); whole = λ o. not_on o; tells = tt }
-      by true z false e =
-          record { leads = λ rest. rw (is_taken z, ← here, e); whole = λ o. taken_whole s file at (seen t words values) (is_taken z); tells = tt }
-      by true z true e =
-          record {
-            leads = λ rest. rw (is_taken z, ← here, e) (ends z e);
-            whole = λ o. not_on o;
-            tells = end_tells t.program.instructions next (length file);
-          }
-
--- What is told goes by the outcome.
-pub tells : (v : Verdict) (file words : List ℕ) (p : Program) → Tells v p.instructions → concluded v (program_seen p words []) ≡ check_of file → told v ≡ told_of (check_of file)
-tells (Accepted n) file words p h e = rw h (ap told_of e)
-tells (Refused n q) file words p h e = ap told_of e
 
 -- ---- The walk
 
@@ -203,9 +120,6 @@ pub check_long : (file : List ℕ) → longest < length file → refused too_lon
 unfolding check_of
 check_long file h = rw (lt-ltb longest (length file) h)
 
-pub check_long_told : (file : List ℕ) → longest < length file → breaks too_long 0 ≡ told_of (check_of file)
-check_long_told file h = ap told_of (check_long file h)
-
 pub check_start : (file : List ℕ) (s : Seen) → s ≡ nothing → length file ≤ longest → Going file 0 s
 unfolding check_of
 check_start file s e h = record { left = length file; enough = omega arith; whole = rw (e, le-ltb longest (length file) h) }
@@ -216,15 +130,8 @@ module _ (file : List ℕ) (at : ℕ) (s : Seen) (going : Going file at s) where
   walk_past zero h = refl
   walk_past (suc k) h = rw (le-ltb at (length file) h)
 
-  walk_end : length file ≤ at → refused no_end (length file) ≡ check_of file
+  pub walk_end : length file ≤ at → refused no_end (length file) ≡ check_of file
   walk_end h = sym (walk_past going.left h) ∙ going.whole
-
-  module _ (v : Verdict) (is : v ≡ Refused no_end (length file)) (h : length file ≤ at) where
-    pub ends_so : (p : Program) (words : List ℕ) → concluded v (program_seen p words []) ≡ check_of file
-    ends_so p words = rw is (walk_end h)
-
-    pub ends_told : told v ≡ told_of (check_of file)
-    ends_told = rw is (ap told_of (walk_end h))
 
   module _ (h : at < length file) where
     by_turn : onward (record_finding s file at) file at (λ u. walk (going.left - 1) file (at + size_at file at) u) ≡ check_of file
@@ -234,26 +141,38 @@ module _ (file : List ℕ) (at : ℕ) (s : Seen) (going : Going file at s) where
         let t : going.left ≡ suc (going.left - 1) = omega arith in
         sym (ap (λ (n : ℕ). walk n file at s) t ∙ rw (lt-ltb at (length file) h)) ∙ going.whole
 
-    module _ (t : Turn) (words values : List ℕ) (turned : Turned s file at t words values) where
-      pub walk_stops : (v : Verdict) → t.way ≡ Ended v → concluded v (program_seen t.state.program words []) ≡ check_of file
-      walk_stops v e =
-          let f : concluded v (program_seen t.state.program words []) ≡ _ = rw e at (turned.leads (λ u. walk (going.left - 1) file (at + size_at file at) u)) in
-          f ∙ by_turn
+    pub walk_refused : (n : ℕ) → due n ≡ record_finding s file at → refused n at ≡ check_of file
+    walk_refused n e = rw (← e) at by_turn
 
-      pub walk_tells : (v : Verdict) → t.way ≡ Ended v → told v ≡ told_of (check_of file)
-      walk_tells v e = tells v file words t.state.program (rw e at turned.tells) (walk_stops v e)
+    -- The record is taken.
+    module _ (t : State) (words values : List ℕ) (found : taken (seen t words values) ≡ record_finding s file at) (kind size : ℕ)
+        (here : kind ≡ get_or file at 0) (sized : size ≡ size_at file at)
+      where
+        some_size : size ≡ 0 → ⊥
+        some_size z = taken_whole s file at (seen t words values) (sym found) (sym sized ∙ z)
 
-      module _ (size : ℕ) (n : size ≡ size_at file at) (e : t.way ≡ On) where
-        pub walk_goes : Going file (at + size) (seen t.state words values)
-        walk_goes =
-            let l = going.enough in
-            let w = turned.whole e in
-            record {
-              left = going.left - 1;
-              enough = omega arith;
-              whole = rw n ((rw e at (turned.leads (λ u. walk (going.left - 1) file (at + size_at file at) u))) ∙ by_turn);
-            }
+        taken_turn : cond (eqb kind 0x89) (cond (ltb (at + 1) (length file)) (refused byte_after_end (at + 1)) (accepted (seen t words values))) (walk (going.left - 1) file (at + size) (seen t words values)) ≡ check_of file
+        taken_turn = rw (← found, ← here, ← sized) at by_turn
 
-        -- Less of the file is left.
-        pub walk_less : length file - (at + size) < length file - at
-        walk_less = let w = turned.whole e in omega arith
+        module _ (other : kind ≡ 0x89 → ⊥) where
+          pub walk_goes : Going file (at + size) (seen t words values)
+          walk_goes =
+              let l = going.enough in
+              let z = some_size in
+              record { left = going.left - 1; enough = omega arith; whole = rw (ne_eqb kind 0x89 other) at taken_turn }
+
+          -- Less of the file is left.
+          pub walk_less : length file - (at + size) < length file - at
+          walk_less = let z = some_size in omega arith
+
+        module _ (end : kind ≡ 0x89) where
+          -- A byte after END is the next one.
+          one : size ≡ 1
+          one = sized ∙ end_size file at (sym here ∙ end) (taken_whole s file at (seen t words values) (sym found))
+
+          -- At END no block is open.
+          pub walk_ended : (r : Result Program (Refused ℕ)) → outcome r words ≡ ended (at + size) (length file) (program_seen t.program words []) → outcome r words ≡ check_of file
+          unfolding ended seen
+          walk_ended r e =
+              let closed : blocks_of t.blocks values ≡ [] = end_closed s file at (seen t words values) (sym found) (sym here ∙ end) in
+              e ∙ rw (one, ← closed) (rw end at taken_turn)

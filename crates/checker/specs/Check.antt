@@ -1,15 +1,13 @@
 -- The whole check: "Records are taken in file order", up to the first refusal or to END.
 -- Assumes nothing.
-use Rattle.std.specs.Prelude.{ℕ, zero, suc, ◌+◌, ◌-◌, ◌*◌, List, [], ◌++◌, cond, eqb, ltb, length, get_or, take, replicate}
+use Rattle.std.specs.Prelude.{ℕ, zero, suc, ◌+◌, ◌-◌, ◌*◌, List, [], ◌++◌, cond, eqb, ltb, length, get_or, take, replicate, Result, Ok, Err}
 use Rattle.format.specs.Records.{longest, size_at}
-use Rattle.format.specs.Refusals.{too_long, byte_after_end, no_end}
+use Rattle.format.specs.Refusals.{too_long, byte_after_end, no_end, number_of}
+use Rattle.format.specs.declared.refusals.Refused.{Refused}
 use Rattle.blocks.specs.Control.{END, kind_of}
 use Rattle.blocks.specs.Nesting.{Open}
 use Rattle.registers.specs.Sets.{is_in}
 use Rattle.checker.specs.Findings.{most_immediates, Seen, nothing, Finding, taken, due, record_finding}
-use Rattle.checker.specs.declared.Verdict.{Verdict}
-use Rattle.checker.specs.declared.Verdict.TheVariants.{Accepted, Refused}
-use Rattle.checker.specs.declared.Checked.{Checked}
 use Rattle.checker.specs.declared.program.Program.{Program}
 
 -- What the check comes to: the program is accepted, with what was seen of it, or refused with a number at a place.
@@ -42,9 +40,9 @@ pub data Told : Type 0 where
   follows : ℕ → Told
   breaks : ℕ → ℕ → Told
 
-abbrev pub told : Verdict → Told
-told (Accepted instructions) = follows instructions
-told (Refused number place) = breaks number place
+abbrev pub told : Result ℕ (Refused ℕ) → Told
+told (Ok instructions) = follows instructions
+told (Err r) = breaks (number_of r.refusal) r.place
 
 abbrev pub told_of : Outcome → Told
 told_of (accepted s) = follows s.instructions
@@ -83,14 +81,16 @@ pub record Examined : Type 0 where
   pub words : List ℕ
 
 -- At END no block is open.
-abbrev pub examined_as : Checked → List ℕ → Examined
-examined_as c words =
+abbrev pub examined_as : Result Program (Refused ℕ) → List ℕ → Examined
+examined_as (Ok p) words =
     record {
-      answer = told c.verdict;
-      program = program_seen c.program words [];
-      given = 4 * c.program.immediates;
+      answer = follows p.instructions;
+      program = program_seen p words [];
+      given = 4 * p.immediates;
       words = words;
     }
+examined_as (Err r) words =
+    record { answer = breaks (number_of r.refusal) r.place; program = nothing; given = 0; words = words }
 
 abbrev pub examined : Outcome → List ℕ → Examined
 examined o words =

@@ -16,7 +16,8 @@ use registers::sets;
 
 // A program of which nothing has been seen.
 pub fn unseen() -> Program
-    ensures { ((words : List ℕ) → program_seen result words [] ≡ nothing) × (result.immediates ≡ 0) × (result.instructions ≡ 0) }
+    ensures seen { (words : List ℕ) → program_seen result words [] ≡ nothing }
+    ensures counts { (result.immediates ≡ 0) × (result.instructions ≡ 0) }
 {
     let declared = sets::empty();
     Program {
@@ -41,9 +42,11 @@ fn reach_of(file: u8, d: Declaration, before: u32) -> u32
 }
 
 // The program with a declaration more, which is followed by the place `next`.
+#[tactic(auto, unfolding(crate::specs::Findings::with_declaration))]
 pub fn with_declaration(p: Program, d: Declaration, next: usize) -> Program
     requires { (declaration_rule d ≡ true) × (next ≤ 65536) }
-    ensures { ((words : List ℕ) (blocks : List Open) → program_seen result words blocks ≡ with_declaration (program_seen p words blocks) d next) × (result.immediates ≡ p.immediates) × (result.instructions ≡ p.instructions) }
+    ensures seen { (words : List ℕ) (blocks : List Open) → program_seen result words blocks ≡ with_declaration (program_seen p words blocks) d next }
+    ensures counts { (result.immediates ≡ p.immediates) × (result.instructions ≡ p.instructions) }
 {
     let before = p.declared;
     let declared = sets::declare(before, d);
@@ -79,6 +82,7 @@ fn put_immediate(words: &mut [u32; 1024], n: usize, file: &[u8], at: usize)
 }
 
 // The program with the immediate at a place more, which is followed by the place `next`.
+#[tactic(auto, using(crate::proofs::Keeping::kept_immediate, crate::proofs::Keeping::padded_after))]
 pub fn with_immediate(
     p: Program,
     file: &[u8],
@@ -87,7 +91,9 @@ pub fn with_immediate(
     words: &mut [u32; 1024],
 ) -> Program
     requires { (at ≤ 65536) × (next ≤ 65536) × (next ≡ at + size_at file.now at) × (p.immediates < 256) × Padded p.immediates words.old }
-    ensures { ((blocks : List Open) → program_seen result words.new blocks ≡ with_immediate (program_seen p words.old blocks) file.now at) × Padded result.immediates words.new × (result.immediates ≡ p.immediates + 1) × (result.instructions ≡ p.instructions) }
+    ensures seen { (blocks : List Open) → program_seen result words.new blocks ≡ with_immediate (program_seen p words.old blocks) file.now at }
+    ensures padded { Padded result.immediates words.new }
+    ensures counts { (result.immediates ≡ p.immediates + 1) × (result.instructions ≡ p.instructions) }
 {
     put_immediate(words, 4 * p.immediates as usize, file, at + 1);
     let mut q = p;

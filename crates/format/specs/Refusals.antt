@@ -1,7 +1,8 @@
--- The refusals by number, each under its row (document 01, "Refusals by number"; document 02, W1). 31 stands in `text`, which depends on
--- nothing (text/specs/Output.antt).
+-- The refusals by number, each under its row (document 01, "Refusals by number"; document 02, W1).
 -- Assumes nothing.
-use Rattle.std.specs.Prelude.{ℕ}
+use Rattle.std.specs.Prelude.{ℕ, Result, Ok, Err}
+use Rattle.format.specs.declared.refusals.Refusal.{Refusal}
+use Rattle.format.specs.declared.refusals.Refusal.TheVariants.{TooLong, ByteAfterEnd, UnknownKind, BodyCut, LateDeclaration, TooMany, FieldRuleBroken, Overlapping, NotDeclared, NestingBroken, SwitchRuleBroken, TooDeep, NoEnd, InputsShort, ConstantsShort, RegistersShort, WorkingShort, MemoryLong, MalformedLine, OutputShort}
 
 -- "file over 65,536 bytes (place 0, before all else)"
 abbrev pub too_long : ℕ
@@ -79,3 +80,34 @@ memory_long = 24
 -- "in reading, 30 malformed line (also an unknown kind or a number too large for its field; place: its first byte)" (document 02, W1)
 abbrev pub malformed_line : ℕ
 malformed_line = 30
+
+-- "31 output short" (document 02, W1)
+abbrev pub output_short : ℕ
+output_short = 31
+
+abbrev pub number_of : Refusal → ℕ
+number_of TooLong = too_long
+number_of ByteAfterEnd = byte_after_end
+number_of UnknownKind = unknown_kind
+number_of BodyCut = body_cut
+number_of LateDeclaration = late_declaration
+number_of TooMany = too_many
+number_of FieldRuleBroken = field_rule_broken
+number_of Overlapping = overlapping
+number_of NotDeclared = not_declared
+number_of NestingBroken = nesting_broken
+number_of SwitchRuleBroken = switch_rule_broken
+number_of TooDeep = too_deep
+number_of NoEnd = no_end
+number_of InputsShort = inputs_short
+number_of ConstantsShort = constants_short
+number_of RegistersShort = registers_short
+number_of WorkingShort = working_short
+number_of MemoryLong = memory_long
+number_of MalformedLine = malformed_line
+number_of OutputShort = output_short
+
+-- The number that is due, 0 where nothing is refused.
+abbrev pub due : Result (Unit {0}) Refusal → ℕ
+due (Ok _) = 0
+due (Err refusal) = number_of refusal

@@ -1,4 +1,88 @@
-// The refusals by number, each under its row (document 01, "Refusals by number").
+// The refusals, each with its number under its row (document 01, "Refusals by number"; document 02, W1).
+ghost use Rattle.std.specs.Prelude.{◌≡◌};
+ghost use Rattle.format.specs.Refusals.{number_of};
+
+// Why a file, a run or a text is refused.
+#[derive(Clone, Copy, Debug, PartialEq, Eq)]
+pub enum Refusal {
+    // "file over 65,536 bytes (place 0, before all else)"
+    TooLong = 1,
+
+    // "a byte follows an END that no later row refuses (place of that byte)"
+    ByteAfterEnd = 2,
+
+    // "unknown kind"
+    UnknownKind = 3,
+
+    // "body runs past the file"
+    BodyCut = 4,
+
+    // "declaration or immediate after an instruction"
+    LateDeclaration = 5,
+
+    // "1,025th instruction or 257th immediate"
+    TooMany = 6,
+
+    // "a field rule broken"
+    FieldRuleBroken = 7,
+
+    // "declaration overlaps an earlier one of its file"
+    Overlapping = 8,
+
+    // "direct operand not declared, or no such immediate; indirect with ADDR or the whole file undeclared; memory kind without MEM"
+    NotDeclared = 9,
+
+    // "nesting broken"
+    NestingBroken = 10,
+
+    // "switch rule broken"
+    SwitchRuleBroken = 11,
+
+    // "a 17th open block"
+    TooDeep = 12,
+
+    // "file ends without END (place: file length)"
+    NoEnd = 13,
+
+    // "20-24: run only (preparing alone: 23 only), after all above, in order, place 0"
+
+    // "inputs, constants shorter than 4·(highest declared+1) words, 0 if none is declared"
+    InputsShort = 20,
+
+    ConstantsShort = 21,
+
+    // "registers under 1,156"
+    RegistersShort = 22,
+
+    // "working words under 3 per instruction"
+    WorkingShort = 23,
+
+    // "memory over 16,384 words"
+    MemoryLong = 24,
+
+    // "in reading, 30 malformed line (also an unknown kind or a number too large for its field; place: its first byte)" (document 02, W1)
+    MalformedLine = 30,
+
+    // "31 output short" (document 02, W1)
+    OutputShort = 31,
+}
+
+impl Refusal {
+    pub fn number(self) -> u8
+        ensures { result ≡ number_of self }
+    {
+        self as u8
+    }
+}
+
+// "A refusal returns its number and a byte place" (document 01): in a program file a u32, in a text a usize.
+#[derive(Clone, Copy, Debug, PartialEq, Eq)]
+pub struct Refused<P> {
+    pub refusal: Refusal,
+    pub place: P,
+}
+
+// The same numbers alone.
 
 // "file over 65,536 bytes (place 0, before all else)"
 pub const TOO_LONG: u8 = 1;

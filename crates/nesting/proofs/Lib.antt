@@ -1,4 +1,3 @@
-pub mod Steps
 pub mod Among
 pub mod Stack
 pub mod Opening

@@ -5,18 +5,12 @@
 ghost use Rattle.std.specs.Prelude.{◌≡◌, true, ◌<◌};
 ghost use Rattle.blocks.specs.Control.{op_of};
 ghost use Rattle.blocks.specs.Nesting.{opens};
-ghost use Rattle.nesting.specs.Left.{leaving, pushed, labelled, left_after, nest_of};
+ghost use Rattle.nesting.specs.Left.{nested_as, leaving, pushed, labelled, left_after, nest_of};
 
 use blocks::control;
+use format::refusals::Refusal;
 use rules::nesting_refusal;
 use stack::{Blocks, codes, innermost_start, popped, recoded};
-
-// What the rules say of an instruction: the number of the refusal, or 0 and the blocks that are open after it.
-#[derive(Clone, Copy)]
-pub struct Nested {
-    pub refusal: u8,
-    pub blocks: Blocks,
-}
 
 const MOST_WORDS: u16 = 1024;
 
@@ -35,7 +29,7 @@ fn pushed(b: Blocks, code: u8) -> Blocks
 
 // The blocks with one word more for the innermost.
 fn labelled(b: Blocks, values: &mut [u32; 1024], links: &mut [u16; 2048], x: u32) -> Blocks
-    ensures { leaving 0 result values.new links.new ≡ labelled x b values.old links.old }
+    ensures { leaving result values.new links.new ≡ labelled x b values.old links.old }
 {
     let n = b.held;
     if MOST_WORDS <= n {
@@ -50,6 +44,7 @@ fn labelled(b: Blocks, values: &mut [u32; 1024], links: &mut [u16; 2048], x: u32
 }
 
 // The blocks that are open after an instruction of a kind that no rule refuses.
+#[tactic(auto, unfolding(crate::specs::Left::left_after, blocks::specs::Control::op_of))]
 fn open_after(
     b: Blocks,
     values: &mut [u32; 1024],
@@ -58,7 +53,7 @@ fn open_after(
     x: u32,
 ) -> Blocks
     requires { opens (op_of kind) ≡ true → b.depth < 16 }
-    ensures { leaving 0 result values.new links.new ≡ left_after (op_of kind) x b values.old links.old }
+    ensures { leaving result values.new links.new ≡ left_after (op_of kind) x b values.old links.old }
 {
     match kind {
         control::ELSE => recoded(b, codes::ELSE),
@@ -74,22 +69,17 @@ fn open_after(
     }
 }
 
-// What the rules say of an instruction of a kind; for a CASE x is its word.
+// The blocks that are open after an instruction of a kind, or its refusal; for a CASE x is its word.
+#[tactic(auto, using(format::proofs::Numbered::numbered), unfolding(crate::specs::Left::nest_of, rules::specs::Kept::nesting_refusal))]
 pub fn nest(
     b: Blocks,
     values: &mut [u32; 1024],
     links: &mut [u16; 2048],
     kind: u8,
     x: u32,
-) -> Nested
-    ensures { record { nested = result; values = values.new; links = links.new } ≡ nest_of b values.old links.old kind x }
+) -> Result<Blocks, Refusal>
+    ensures { record { nested = nested_as result; values = values.new; links = links.new } ≡ nest_of b values.old links.old kind x }
 {
-    let refusal = nesting_refusal(b, values, links, kind, x);
-    if refusal != 0 {
-        return Nested { refusal, blocks: b };
-    }
-    Nested {
-        refusal: 0,
-        blocks: open_after(b, values, links, kind, x),
-    }
+    nesting_refusal(b, values, links, kind, x)?;
+    Ok(open_after(b, values, links, kind, x))
 }

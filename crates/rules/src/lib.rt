@@ -2,15 +2,17 @@
 #![tactic(auto)]
 
 ghost use Rattle.std.specs.Prelude.{◌≡◌};
+ghost use Rattle.format.specs.Refusals.{due};
 ghost use Rattle.blocks.specs.Control.{op_of};
 ghost use Rattle.rules.specs.Kept.{nesting_kept, switch_kept, nesting_refusal};
 
 use blocks::control;
 use blocks::control::is_opening;
-use format::refusals;
+use format::refusals::Refusal;
 use stack::{Blocks, MOST_OPEN, codes, innermost_is, innermost_start, some_is};
 
 // Whether an instruction of a kind is well nested: else 10.
+#[tactic(auto, unfolding(crate::specs::Kept::nesting_kept, blocks::specs::Control::op_of))]
 fn nesting_kept(b: Blocks, kind: u8) -> bool
     ensures { result ≡ nesting_kept (op_of kind) b }
 {
@@ -29,6 +31,7 @@ fn nesting_kept(b: Blocks, kind: u8) -> bool
 }
 
 // Whether an instruction of a kind keeps the rules of a SWITCH: else 11. For a CASE x is its word.
+#[tactic(auto, unfolding(crate::specs::Kept::switch_kept, blocks::specs::Control::op_of))]
 fn switch_kept(b: Blocks, values: &[u32; 1024], links: &[u16; 2048], kind: u8, x: u32) -> bool
     ensures { result ≡ switch_kept (op_of kind) x b values.now links.now }
 {
@@ -43,18 +46,25 @@ fn switch_kept(b: Blocks, values: &[u32; 1024], links: &[u16; 2048], kind: u8, x
     }
 }
 
-// The lowest of 10, 11 and 12 that applies to an instruction of a kind, 0 for none; for a CASE x is its word.
-pub fn nesting_refusal(b: Blocks, values: &[u32; 1024], links: &[u16; 2048], kind: u8, x: u32) -> u8
-    ensures { result ≡ nesting_refusal b values.now links.now kind x }
+// Refuses an instruction of a kind with the lowest of 10, 11 and 12 that applies; for a CASE x is its word.
+#[tactic(auto, unfolding(crate::specs::Kept::nesting_refusal))]
+pub fn nesting_refusal(
+    b: Blocks,
+    values: &[u32; 1024],
+    links: &[u16; 2048],
+    kind: u8,
+    x: u32,
+) -> Result<(), Refusal>
+    ensures { due result ≡ nesting_refusal b values.now links.now kind x }
 {
     if !nesting_kept(b, kind) {
-        return refusals::NESTING_BROKEN;
+        return Err(Refusal::NestingBroken);
     }
     if !switch_kept(b, values, links, kind, x) {
-        return refusals::SWITCH_RULE_BROKEN;
+        return Err(Refusal::SwitchRuleBroken);
     }
     if is_opening(kind) & (MOST_OPEN <= b.depth) {
-        return refusals::TOO_DEEP;
+        return Err(Refusal::TooDeep);
     }
-    0
+    Ok(())
 }

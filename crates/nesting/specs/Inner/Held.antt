@@ -5,7 +5,7 @@ use Rattle.blocks.specs.Nesting.{Open, open_uif, open_else, open_loop, open_swit
 use Rattle.stack.specs.Arrays.{innermost_start}
 use Rattle.tree.specs.Inner.Tree.{Tree}
 use Rattle.stack.specs.declared.Blocks.{Blocks}
-use Rattle.nesting.specs.declared.Nested.{Nested}
+use Rattle.nesting.specs.Left.{Nested, opened, denied}
 
 -- The block of a code, with the words of its CASEs.
 abbrev pub open_of : ℕ → List ℕ → Open
@@ -35,7 +35,8 @@ top_values b values = newest_first values (innermost_start b) (b.held - innermos
 
 -- What the code's answer on an instruction says, the values standing in `values` after it.
 abbrev pub ruling_of : Nested → List ℕ → Ruling
-ruling_of n values = cond (eqb n.refusal 0) (goes (blocks_of n.blocks values)) (refused n.refusal)
+ruling_of (opened b) values = goes (blocks_of b values)
+ruling_of (denied number) values = refused number
 
 -- The codes are those of `stack`'s specs/Arrays, and each block starts where or after the one around it does.
 abbrev pub Stacked : List ℕ → List ℕ → ℕ → ℕ → Type 0
