@@ -22,8 +22,9 @@ use Rattle.text.proofs.Stores.{deliver_all}
 use Rattle.listing.specs.Listing.{listing_of}
 use Rattle.listing.specs.Reading.{bytes_of}
 use Rattle.listing.specs.Calls.{delivered_if, print_of, read_of}
-use Rattle.listing.specs.Inner.Found.{Holds, Spelt}
-use Rattle.listing.specs.declared.reading.Found.{Found}
+use Rattle.listing.specs.Inner.Spelt.{Holds, Spelt}
+use Rattle.listing.specs.declared.reading.MalformedLine.{MalformedLine}
+use Rattle.std.proofs.Common.{Ok, Err}
 
 -- ---- Printing
 
@@ -84,13 +85,13 @@ module _ (array output : List ℕ) (n : ℕ) where
           → (program : List ℕ) → Holds program n array → w ≡ delivered_if (check_of program) program output
       program_delivered k w r ew program s = ew ∙ rw (← program_is program s, (check_accepted (take n array) v e k r).1)
 
-module _ (text array output : List ℕ) (r : Found) (s : Spelt r array (bytes_of text)) where
-  pub read_malformed : (at : ℕ) → r ≡ Found.Malformed at → written (refusal malformed_line at) output ≡ read_of text output
+module _ (text array output : List ℕ) where
+  pub read_malformed : (line : MalformedLine) → Spelt (Err line) array (bytes_of text) → written (refusal malformed_line line.place) output ≡ read_of text output
   unfolding read_of
-  read_malformed at e = rw (s.bad at e)
+  read_malformed line s = rw s
 
-  pub read_spelled : (n : ℕ) (w : Written) → r ≡ Found.File n
+  pub read_spelled : (n : ℕ) (w : Written) → Spelt (Ok n) array (bytes_of text)
       → ((program : List ℕ) → Holds program n array → w ≡ delivered_if (check_of program) program output)
       → w ≡ read_of text output
   unfolding read_of
-  read_spelled n w e f = f (s.good n e).0 (s.good n e).2 ∙ rw (s.good n e).1
+  read_spelled n w s f = f s.0 s.2 ∙ rw s.1

@@ -16,7 +16,7 @@ use Rattle.checker.specs.Check.{walk, check_of}
 use Rattle.checker.specs.Findings.{with_declaration, declaration_finding, with_immediate, immediate_finding, with_instruction, instruction_finding, record_finding}
 use Rattle.text.specs.Decimal.{digits_within, decimal, value_from}
 use Rattle.text.specs.Output.{wrote, refusal, written, delivered}
-use Rattle.text.specs.Parts.{spaced, split, same}
+use Rattle.text.specs.Parts.{spaced, split}
 use Rattle.listing.specs.Calls.{print_of, read_of}
 use Rattle.lines.specs.Lines.{numbers_at, record_line}
 use Rattle.listing.specs.Listing.{lines_from, listing_of}
@@ -33,7 +33,7 @@ unfolding listing_of lines_from record_line numbers_at size_at length_of number_
 printed12 = (refl, refl, refl)
 
 read12 : bytes_of listing12 ≡ spelled file12
-unfolding bytes_of read_lines line_record kind_in is_line_of field_bytes split same little_endian value_from record_line numbers_at length_of number_at word16 word32 spaced decimal digits_within
+unfolding bytes_of read_lines line_record kind_in is_line_of field_bytes split little_endian value_from record_line numbers_at length_of number_at word16 word32 spaced decimal digits_within
 read12 = refl
 
 -- It is accepted: both calls deliver, where the output is long enough, and the bytes past what they write stay.
@@ -44,7 +44,7 @@ calls12 :
     × (read_of listing12 (replicate 36 7) ≡ written (wrote 34) (file12 ++ (7 ∷ 7 ∷ [])))
     × (read_of listing12 (replicate 34 7) ≡ written (wrote 34) file12)
     × (read_of listing12 (replicate 33 7) ≡ written (refusal 31 0) (replicate 33 7))
-unfolding delivered print_of listing_of lines_from read_of bytes_of read_lines line_record kind_in is_line_of field_bytes split same little_endian value_from record_line numbers_at number_at spaced decimal digits_within length_of word16 word32 destination_at source_at declaration_at case_word size_at op_of walk check_of with_declaration declaration_finding with_immediate immediate_finding source_found operands_found with_instruction instruction_finding record_finding destination_rule source_rule all_operands declaration_rule
+unfolding delivered print_of listing_of lines_from read_of bytes_of read_lines line_record kind_in is_line_of field_bytes split little_endian value_from record_line numbers_at number_at spaced decimal digits_within length_of word16 word32 destination_at source_at declaration_at case_word size_at op_of walk check_of with_declaration declaration_finding with_immediate immediate_finding source_found operands_found with_instruction instruction_finding record_finding destination_rule source_rule all_operands declaration_rule
 calls12 = (refl, refl, refl, refl, refl, refl)
 
 abbrev read : String → Reading
@@ -80,7 +80,7 @@ readings :
     × (read "137" ≡ malformed 0)
     × (read "1 3 0 0\n137" ≡ malformed 8)
     × (read "1 3 0 0\n2 25 0 0\n137" ≡ malformed 8)
-unfolding bytes_of read_lines line_record kind_in is_line_of field_bytes split same little_endian value_from record_line numbers_at length_of number_at word16 word32 spaced decimal digits_within
+unfolding bytes_of read_lines line_record kind_in is_line_of field_bytes split little_endian value_from record_line numbers_at length_of number_at word16 word32 spaced decimal digits_within
 readings = (refl, refl, refl, refl, refl, refl, refl, refl, refl, refl, refl, refl, refl, refl, refl, refl, refl, refl, refl, refl, refl, refl, refl)
 
 -- Whatever the output: "30 malformed line .., then the read program's own", at its place in the file; the empty listing is the empty program,
@@ -91,5 +91,5 @@ refusals : (output : List ℕ)
     × (read_of (quoted "1 3 0 0\n1 3 0 0\n137\n") output ≡ written (refusal 8 6) output)
     × (read_of (quoted "1 3 0 0\n1 3 0 0\n137") output ≡ written (refusal 30 16) output)
     × (print_of (1 ∷ 3 ∷ 0 ∷ 0 ∷ 0 ∷ 0 ∷ []) output ≡ written (refusal 13 6) output)
-unfolding print_of read_of bytes_of read_lines line_record kind_in is_line_of field_bytes split same little_endian value_from record_line numbers_at number_at spaced decimal digits_within length_of word16 word32 destination_at source_at declaration_at case_word size_at op_of walk check_of with_declaration declaration_finding with_immediate immediate_finding source_found operands_found with_instruction instruction_finding record_finding destination_rule source_rule all_operands declaration_rule
+unfolding print_of read_of bytes_of read_lines line_record kind_in is_line_of field_bytes split little_endian value_from record_line numbers_at number_at spaced decimal digits_within length_of word16 word32 destination_at source_at declaration_at case_word size_at op_of walk check_of with_declaration declaration_finding with_immediate immediate_finding source_found operands_found with_instruction instruction_finding record_finding destination_rule source_rule all_operands declaration_rule
 refusals output = (refl, refl, refl, refl, refl)

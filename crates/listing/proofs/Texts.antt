@@ -1,10 +1,11 @@
 -- Reading: the file so far and what the rest of the text gives make the whole, at every turn.
 -- Assumes nothing.
+use Rattle.std.proofs.Common.{Option, Some, None, Ok}
 use Rattle.text.proofs.Stores.{front}
 use Rattle.listing.proofs.WholeRecords.{read_line, joined_none, joined_join}
 use Rattle.text.proofs.Lines.{split_some}
-use mathlib.Core.Path.{◌≡◌, refl, sym, ap, subst, ◌∙◌}
-use mathlib.Core.Bool.{Bool, true, false, true≢false, cond}
+use mathlib.Core.Path.{◌≡◌, refl, sym, ap, ◌∙◌}
+use mathlib.Core.Bool.{Bool, true, false, cond}
 use mathlib.Core.List.{List, [], ◌++◌, append-nil}
 use Prim.Native.Nat.{ℕ, ◌+◌, ◌-◌, ◌^◌, ◌≤◌, ◌<◌}
 use native.Mathlib.Omega.{arith}
@@ -13,14 +14,14 @@ use lib.Dec.{ltb}
 use lib.ListN.{length, take, drop, length-append, length-drop, drop_of_length-le}
 use lib.Seq.{sets, sets-eq, length-sets, drop-cons, drop-drop, take_at}
 use Rattle.format.specs.Records.{longest}
-use Rattle.format.proofs.Widths.{sum}
 use Rattle.text.specs.Parts.{line_feed, split, first}
 use Rattle.text.proofs.Splitting.{split_within, split_part, split_first, split_last}
 use Rattle.spelling.specs.Spelling.{line_record, is_line_of, well_formed}
-use Rattle.listing.specs.Reading.{Reading, spelled, malformed, joined, read_lines, bytes_of}
-use Rattle.spelling.proofs.Records.{record_some}
-use Rattle.listing.specs.declared.reading.Found.{Found}
-use Rattle.listing.specs.Inner.Found.{counted_on, Holds, Spelt}
+use Rattle.listing.specs.Reading.{Reading, malformed, joined, read_lines, bytes_of}
+use Rattle.listing.specs.Inner.Spelt.{counted_on, Holds, Spelt}
+
+none_some : {A : Type 0} {n : ℕ} → ◌≡◌ {A = Option ℕ} None (Some n) → A
+none_some e = let z : ◌≡◌ {A = ℕ} 0 1 = cc in absurd (omega arith)
 
 -- ---- A line after the file so far
 
@@ -41,14 +42,14 @@ module _ (l zeros bytes : List ℕ) (size : ℕ) (e : bytes ≡ sets zeros 0 (li
     line_is : b ≡ well_formed l
     line_is = eb ∙ ap (λ (x : List ℕ). is_line_of x l) record_held
 
-    pub line_refused_size : b ≡ false → 0 ≡ cond (well_formed l) (length (line_record l)) 0
+    pub line_refused_size : b ≡ false → None ≡ cond (well_formed l) (Some (length (line_record l))) None
     line_refused_size f = rw (← line_is, f)
 
     pub line_refused_file : (file : List ℕ) (at : ℕ) → b ≡ false → file ≡ cond (well_formed l) (sets file at (line_record l)) file
     line_refused_file file at f = rw (← line_is, f)
 
-    pub line_taken_size : b ≡ true → size ≡ cond (well_formed l) (length (line_record l)) 0
-    line_taken_size f = es ∙ rw (← line_is, f)
+    pub line_taken_size : b ≡ true → Some size ≡ cond (well_formed l) (Some (length (line_record l))) None
+    line_taken_size f = rw (← line_is, f, es)
 
     pub line_taken_file : (file after : List ℕ) (at : ℕ)
         → b ≡ true
@@ -150,73 +151,57 @@ module _ (text array : List ℕ) (at count : ℕ) (s : TextLeft text array at co
         ap (λ (ps : List (List ℕ)). read_lines at ps) (split_first line_feed rest (length l) (ap length el) shorter)
         ∙ rw (is, next) (read_line at l (split line_feed (drop (at + length l + 1) text)) (split_some line_feed (drop (at + length l + 1) text)))
 
-    module _ (size : ℕ) (es : size ≡ cond (well_formed l) (length (line_record l)) 0) where
-      pub text_malformed : size ≡ 0 → bytes_of text ≡ malformed at
-      text_malformed z = on (well_formed l) refl
-        where
-          on : (t : Bool) → well_formed l ≡ t → bytes_of text ≡ malformed at
-          on true p =
-              let some : size ≡ length (line_record l) = es ∙ rw p in
-              absurd (omega (arith, z, some, record_some l))
-          on false p =
-              let bad : read_lines at (split line_feed rest) ≡ malformed at = line_first ∙ rw p in
-              sym left_is ∙ ap (λ (r : Reading). joined s.done r) bad
+    -- It is no record's.
+    pub text_malformed : None ≡ cond (well_formed l) (Some (length (line_record l))) None → bytes_of text ≡ malformed at
+    text_malformed e = on (well_formed l) refl
+      where
+        on : (t : Bool) → well_formed l ≡ t → bytes_of text ≡ malformed at
+        on true p = none_some (rw p at e)
+        on false p =
+            let bad : read_lines at (split line_feed rest) ≡ malformed at = line_first ∙ rw p in
+            sym left_is ∙ ap (λ (r : Reading). joined s.done r) bad
 
-      pub kept_room : (kept : List ℕ) → kept ≡ cond (well_formed l) (sets array count (line_record l)) array → length kept ≡ longest
-      kept_room kept ek = on (well_formed l) refl
-        where
-          on : (t : Bool) → well_formed l ≡ t → length kept ≡ longest
-          on true p =
-              let put : kept ≡ sets array count (line_record l) = ek ∙ rw p in
-              rw put (length-sets array count (line_record l) ∙ s.room)
-          on false p =
-              let put : kept ≡ array = ek ∙ rw p in
-              rw put s.room
+    pub kept_room : (kept : List ℕ) → kept ≡ cond (well_formed l) (sets array count (line_record l)) array → length kept ≡ longest
+    kept_room kept ek = on (well_formed l) refl
+      where
+        on : (t : Bool) → well_formed l ≡ t → length kept ≡ longest
+        on true p =
+            let put : kept ≡ sets array count (line_record l) = ek ∙ rw p in
+            rw put (length-sets array count (line_record l) ∙ s.room)
+        on false p =
+            let put : kept ≡ array = ek ∙ rw p in
+            rw put s.room
 
-      pub text_next : (more : ℕ) (kept : List ℕ)
-          → (size ≡ 0 → ⊥)
-          → kept ≡ cond (well_formed l) (sets array count (line_record l)) array
-          → more ≡ counted_on count size
-          → TextLeft text kept (at + length l + 1) more
-      text_next more kept h ek em = on (well_formed l) refl
-        where
-          on : (t : Bool) → well_formed l ≡ t → TextLeft text kept (at + length l + 1) more
-          on true p =
-              let r : List ℕ = line_record l in
-              let others : Reading = read_lines (at + length l + 1) (split line_feed (drop (at + length l + 1) text)) in
-              let good : read_lines at (split line_feed rest) ≡ joined r others = line_first ∙ rw p in
-              let put : kept ≡ sets array count r = ek ∙ rw p in
-              let long : size ≡ length r = es ∙ rw p in
-              record {
-                done = s.done ++ r;
-                whole = sym (joined_join s.done r others) ∙ rw (← good) left_is;
-                holds = holds_next s.done r array kept count more s.holds s.room put (em ∙ rw long);
-                within = line_fits;
-                room = kept_room kept ek;
-              }
-          on false p = absurd (h (es ∙ rw p))
+    pub text_next : (size more : ℕ) (kept : List ℕ)
+        → Some size ≡ cond (well_formed l) (Some (length (line_record l))) None
+        → kept ≡ cond (well_formed l) (sets array count (line_record l)) array
+        → more ≡ counted_on count size
+        → TextLeft text kept (at + (length l + 1)) more
+    text_next size more kept es ek em = on (well_formed l) refl
+      where
+        sum : at + (length l + 1) ≡ at + length l + 1
+        sum = omega arith
 
-abbrev is_file : Found → Bool
-is_file (Found.Malformed at) = false
-is_file (Found.File n) = true
+        on : (t : Bool) → well_formed l ≡ t → TextLeft text kept (at + (length l + 1)) more
+        on true p =
+            let r : List ℕ = line_record l in
+            let others : Reading = read_lines (at + length l + 1) (split line_feed (drop (at + length l + 1) text)) in
+            let good : read_lines at (split line_feed rest) ≡ joined r others = line_first ∙ rw p in
+            let put : kept ≡ sets array count r = ek ∙ rw p in
+            let some : ◌≡◌ {A = Option ℕ} (Some size) (Some (length r)) = es ∙ rw p in
+            let long : size ≡ length r = cc in
+            rw sum
+            (record {
+              done = s.done ++ r;
+              whole = sym (joined_join s.done r others) ∙ rw (← good) left_is;
+              holds = holds_next s.done r array kept count more s.holds s.room put (em ∙ rw long);
+              within = line_fits;
+              room = kept_room kept ek;
+            })
+        on false p = none_some (sym (rw p at es))
 
-abbrev length_or : Found → ℕ
-length_or (Found.Malformed at) = at
-length_or (Found.File n) = n
-
-pub text_done : (text array : List ℕ) (at count : ℕ) → TextLeft text array at count → length text ≤ at → Spelt (Found.File count) array (bytes_of text)
+pub text_done : (text array : List ℕ) (at count : ℕ) → TextLeft text array at count → length text ≤ at → Spelt (Ok count) array (bytes_of text)
 unfolding read_lines split
 text_done text array at count s h =
     let gone : drop at text ≡ [] = drop_of_length-le text h in
-    let all : bytes_of text ≡ spelled s.done = sym s.whole ∙ rw (gone, append-nil s.done) in
-    record {
-      bad = λ p e. absurd (true≢false (ap is_file e));
-      good = λ n e. (s.done, all, subst (λ (k : ℕ). Holds s.done k array) (ap length_or e) s.holds);
-    }
-
-pub text_bad : (text array : List ℕ) (at : ℕ) → bytes_of text ≡ malformed at → Spelt (Found.Malformed at) array (bytes_of text)
-text_bad text array at b =
-    record {
-      bad = λ p e. b ∙ ap (λ (k : ℕ). malformed k) (ap length_or e);
-      good = λ n e. absurd (true≢false (sym (ap is_file e)));
-    }
+    (s.done, sym s.whole ∙ rw (gone, append-nil s.done), s.holds)

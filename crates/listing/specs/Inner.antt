@@ -1,3 +1,3 @@
 -- What functions of the library promise each other: no public contract cites it.
 -- Assumes nothing.
-pub mod Found
+pub mod Spelt

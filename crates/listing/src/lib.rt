@@ -7,13 +7,12 @@ ghost use Rattle.checker.specs.Check.{check_of};
 ghost use Rattle.text.specs.Output.{answered, wrote, written};
 ghost use Rattle.listing.specs.Calls.{delivered_if, print_of, read_of};
 ghost use Rattle.listing.specs.Reading.{spelled, bytes_of};
-ghost use Rattle.listing.specs.Inner.Found.{Holds};
+ghost use Rattle.listing.specs.Inner.Spelt.{Holds};
 
 use checker::Verdict;
 use format::records::LONGEST;
 use format::refusals;
 use readers::all_bytes;
-use reading::Found;
 use text::output::{Filled, deliver};
 
 mod pieces;
@@ -49,10 +48,9 @@ pub fn read(text: &[u8], output: &mut [u8]) -> Filled
     ensures { written (answered result) output.new ≡ read_of text.now output.old }
 {
     let mut file = [0u8; 65536];
-    let found = reading::spell(text, &mut file);
-    match found {
-        Found::Malformed(place) => Filled::Refused(refusals::MALFORMED_LINE, place),
-        Found::File(length) => deliver_program(&file, length, output),
+    match reading::spell(text, &mut file) {
+        Ok(length) => deliver_program(&file, length, output),
+        Err(malformed) => Filled::Refused(refusals::MALFORMED_LINE, malformed.place),
     }
 }
 

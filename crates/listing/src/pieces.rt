@@ -2,7 +2,7 @@
 ghost use Rattle.std.specs.Prelude.{◌≡◌};
 ghost use Rattle.listing.specs.Pieces.{piece_of};
 
-use super::reading::{Found, spell};
+use super::reading::spell;
 use text::parts::{LINE_FEED, ended_length};
 
 // What a piece tells.
@@ -22,17 +22,16 @@ pub enum Piece {
 pub fn read_piece(piece: &[u8]) -> Piece
     ensures { result ≡ piece_of piece.now }
 {
+    if piece.is_empty() {
+        return Piece::Nothing;
+    }
     let end = ended_length(piece, LINE_FEED);
     if end == 0 {
-        return if piece.len() == 0 {
-            Piece::Nothing
-        } else {
-            Piece::Unended
-        };
+        return Piece::Unended;
     }
     let mut file = [0u8; 65536];
     match spell(&piece[..end], &mut file) {
-        Found::Malformed(at) => Piece::Malformed(at),
-        Found::File(_) => Piece::Lines(end),
+        Ok(_) => Piece::Lines(end),
+        Err(malformed) => Piece::Malformed(malformed.place),
     }
 }

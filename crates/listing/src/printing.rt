@@ -16,13 +16,14 @@ fn put_listing(file: &[u8], output: &mut [u8]) -> usize
 {
     let mut at: usize = 0;
     let mut to: usize = 0;
-    let mut size = records::size_at(file, at);
-    while size != 0 {
+    loop {
+        let size = records::size_at(file, at);
+        if size == 0 {
+            return to;
+        }
         to += put_ended_line(file, at as u32, output, to as u32);
         at += size;
-        size = records::size_at(file, at);
     }
-    to
 }
 
 // Delivers the listing of a file. It is put twice: into no byte, to learn its length, and then into the output.

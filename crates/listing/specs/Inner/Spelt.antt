@@ -1,9 +1,9 @@
 -- What the functions that read a listing promise each other of an array that holds the file so far.
 -- Assumes nothing.
-use Rattle.std.specs.Prelude.{ℕ, ◌+◌, ◌≤◌, ◌<◌, ◌≡◌, cond, List, ltb, length, take}
+use Rattle.std.specs.Prelude.{ℕ, ◌+◌, ◌≤◌, ◌<◌, ◌≡◌, cond, List, ltb, length, take, Result, Ok, Err}
 use Rattle.format.specs.Records.{longest}
 use Rattle.listing.specs.Reading.{Reading, spelled, malformed}
-use Rattle.listing.specs.declared.reading.Found.{Found}
+use Rattle.listing.specs.declared.reading.MalformedLine.{MalformedLine}
 
 -- A count and so many more; past the longest file it stays.
 abbrev pub counted_on : ℕ → ℕ → ℕ
@@ -16,6 +16,6 @@ pub record Holds (file : List ℕ) (count : ℕ) (array : List ℕ) : Type 0 whe
   pub past : longest < length file → longest < count
 
 -- What `spell` answers, with the array that it is lent, of a text that comes to a reading.
-pub record Spelt (r : Found) (array : List ℕ) (reading : Reading) : Type 0 where
-  pub bad : (at : ℕ) → r ≡ Found.Malformed at → reading ≡ malformed at
-  pub good : (count : ℕ) → r ≡ Found.File count → (file : List ℕ) × (reading ≡ spelled file) × Holds file count array
+abbrev pub Spelt : Result ℕ MalformedLine → List ℕ → Reading → Type 0
+Spelt (Ok count) array reading = (file : List ℕ) × (reading ≡ spelled file) × Holds file count array
+Spelt (Err line) array reading = reading ≡ malformed line.place
