@@ -16,21 +16,15 @@ use execution::Stop;
 use execution::steps::carry_out;
 use lending::{bank_into, clear};
 use preparation::write_table;
-use sources::bank::{BANK_WORDS, Bank};
+use machine::step::Code;
+use sources::bank::BANK_WORDS;
 
 // Clears the registers and carries out by the rows.
-fn carry_out_cleared(
-    file: &[u8],
-    rows: &[u32],
-    bank: &Bank,
-    registers: &mut [u32],
-    memory: &mut [u32],
-    budget: u32,
-) -> Stop
-    ensures { Came file.now rows.now bank.now registers.old memory.old budget result registers.new memory.new }
+fn carry_out_cleared(code: &Code, registers: &mut [u32], memory: &mut [u32], budget: u32) -> Stop
+    ensures { Came code.now.file.now code.now.rows.now code.now.bank.now registers.old memory.old budget result registers.new memory.new }
 {
     clear(registers);
-    carry_out(file, rows, bank, registers, memory, budget)
+    carry_out(code, registers, memory, budget)
 }
 
 // Prepares a program, clears the registers and carries it out.
@@ -52,5 +46,6 @@ pub fn carry_out_program(
     let mut bank = [0u32; BANK_WORDS];
     bank_into(&mut bank, declared, immediates, inputs, constants);
     write_table(file, program, work);
-    carry_out_cleared(file, work, &bank, registers, memory, budget)
+    let code = Code { file, rows: work, bank: &bank };
+    carry_out_cleared(&code, registers, memory, budget)
 }
