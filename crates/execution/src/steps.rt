@@ -6,19 +6,11 @@ ghost use Rattle.execution.specs.Steps.{reached, by_rows};
 
 use crate::{Report, Stop};
 use blocks::MOST_INSTRUCTIONS;
-use machine::step::step;
-use sources::bank::Bank;
+use machine::step::Code;
 
 // Carries out instructions by the table's rows, from the first on, until END or until the budget is spent.
-pub fn carry_out(
-    file: &[u8],
-    rows: &[u32],
-    bank: &Bank,
-    registers: &mut [u32],
-    memory: &mut [u32],
-    budget: u32,
-) -> Stop
-    ensures { reached result (state registers.new memory.new) ≡ by_rows file.now rows.now (env_in bank.now) budget 0 0 (state registers.old memory.old) }
+pub fn carry_out(code: &Code, registers: &mut [u32], memory: &mut [u32], budget: u32) -> Stop
+    ensures { reached result (state registers.new memory.new) ≡ by_rows code.now.file.now code.now.rows.now (env_in code.now.bank.now) budget 0 0 (state registers.old memory.old) }
 {
     let mut n: usize = 0;
     for steps in 0..budget {
@@ -26,7 +18,7 @@ pub fn carry_out(
         if MOST_INSTRUCTIONS <= n {
             return Stop::Halted(Report { steps }, n);
         }
-        match step(file, rows, n as u32, bank, registers, memory) {
+        match code.step(n as u32, registers, memory) {
             Some(next) => n = next,
             None => return Stop::Ended(Report { steps: steps + 1 }),
         }

@@ -17,7 +17,8 @@ use Rattle.registers.specs.Sets.{is_in}
 use Rattle.sources.specs.Bank.{env_in, declared_in}
 use Rattle.sources.specs.Operands.{env_with, word_in}
 use Rattle.lending.specs.Lent.{asked_indirectly, bank_env}
-use Rattle.lending.proofs.Copies.{copy_end}
+use Rattle.lending.proofs.Copies.{laid_behind}
+use borrow.Rule.Slice.PartMut.{put_mid}
 
 module _ (a b : List ℕ) (la : length a ≡ 32) (lb : length b ≡ 8) (i : ℕ) where
   -- The first list has the bits below 1,024, the second those from there on.
@@ -50,14 +51,8 @@ module _ (d : Declared) (lc : length d.consts ≡ 32) (lt : length d.temps ≡ 8
       on f i false e true e' = rw (eqb-true f 4 e') (second_bits d.consts d.temps lc lt i (ltb i 256) refl)
       on f i false e false e' = rw (e, e')
 
-  -- The words copied one after the other, i of them, which are all 40.
-  pub copied_is : (words : List ℕ) (i : ℕ)
-      → length (d.consts ++ d.temps) ≡ 40
-      → length words ≡ 40
-      → take i words ≡ take i (d.consts ++ d.temps)
-      → 40 ≤ i
-      → declared_in words ≡ asked_indirectly (is_in d)
-  copied_is words i long room done h = ap declared_in (copy_end (d.consts ++ d.temps) words i 0 long room done h) ∙ asked_is
+  pub words_asked : (a b rest : List ℕ) → a ≡ d.consts → b ≡ d.temps → length rest ≡ 8 → declared_in (put_mid 32 8 (a ++ rest) b) ≡ asked_indirectly (is_in d)
+  words_asked a b rest ea eb lr = rw (ea, eb, laid_behind d.consts d.temps rest lc lr) asked_is
 
 pub bank_is : (d : Declared) (bank bits words inputs constants : List ℕ)
     → declared_in bits ≡ asked_indirectly (is_in d)

@@ -21,29 +21,33 @@ fn bytes_from(file: &[u8], at: usize) -> &[u8]
     &file[at.min(file.len())..]
 }
 
-// Carries out instruction n of the prepared rows.
-pub fn step(
-    file: &[u8],
-    rows: &[u32],
-    n: u32,
-    bank: &Bank,
-    registers: &mut [u32],
-    memory: &mut [u32],
-) -> Option<usize>
-    ensures { stepped result registers.new memory.new ≡ step_of (machine_of (env_in bank.now) file.now (place_in rows.now)) (row_in rows.now) n (state registers.old memory.old) }
-{
-    let after = n as usize + 1;
-    let bytes = bytes_from(file, place_of(rows, n) as usize);
-    let kind = byte_at(bytes, 0);
-    let mut sources = [[0u32; 4]; 4];
-    read_sources(kind, bytes, bank, registers, &mut sources);
-    let x = sources[0][0];
-    match kind {
-        0x10..=0x70 => {
-            effect(kind, destination_at(bytes, 1), &sources, registers, memory);
-            Some(after)
+// What is carried out: a file, the rows of its table, and the bank that its operands read.
+#[derive(Clone, Copy)]
+pub struct Code<'a> {
+    pub file: &'a [u8],
+    pub rows: &'a [u32],
+    pub bank: &'a Bank,
+}
+
+impl Code<'_> {
+    // Carries out instruction n of the prepared rows.
+    pub fn step(&self, n: u32, registers: &mut [u32], memory: &mut [u32]) -> Option<usize>
+        ensures { stepped result registers.new memory.new ≡ step_of (machine_of (env_in self.now.bank.now) self.now.file.now (place_in self.now.rows.now)) (row_in self.now.rows.now) n (state registers.old memory.old) }
+    {
+        let Code { file, rows, bank } = *self;
+        let after = n as usize + 1;
+        let bytes = bytes_from(file, place_of(rows, n) as usize);
+        let kind = byte_at(bytes, 0);
+        let mut sources = [[0u32; 4]; 4];
+        read_sources(kind, bytes, bank, registers, &mut sources);
+        let x = sources[0][0];
+        match kind {
+            0x10..=0x70 => {
+                effect(kind, destination_at(bytes, 1), &sources, registers, memory);
+                Some(after)
+            }
+            0x71..=0xff => next_after(file, rows, parts::immediates(bank), n, kind, x),
+            _ => Some(after),
         }
-        0x71..=0xff => next_after(file, rows, parts::immediates(bank), n, kind, x),
-        _ => Some(after),
     }
 }

@@ -9,29 +9,14 @@ ghost use Rattle.registers.specs.Sets.{is_in};
 ghost use Rattle.effects.specs.Effect.{state};
 ghost use Rattle.lending.specs.Lent.{bank_env, zeroed};
 ghost use Rattle.execution.specs.Steps.{reached, by_rows};
-ghost use Rattle.running.specs.Inner.Came.{Came};
 
 use checker::program::Program;
 use execution::Stop;
 use execution::steps::carry_out;
 use lending::{bank_into, clear};
+use machine::step::Code;
 use preparation::write_table;
-use sources::bank::{BANK_WORDS, Bank};
-
-// Clears the registers and carries out by the rows.
-fn carry_out_cleared(
-    file: &[u8],
-    rows: &[u32],
-    bank: &Bank,
-    registers: &mut [u32],
-    memory: &mut [u32],
-    budget: u32,
-) -> Stop
-    ensures { Came file.now rows.now bank.now registers.old memory.old budget result registers.new memory.new }
-{
-    clear(registers);
-    carry_out(file, rows, bank, registers, memory, budget)
-}
+use sources::bank::BANK_WORDS;
 
 // Prepares a program, clears the registers and carries it out.
 pub fn carry_out_program(
@@ -48,9 +33,14 @@ pub fn carry_out_program(
     ensures table { work.new ≡ filled file.now program.start program.instructions work.old }
     ensures came { reached result (state registers.new memory.new) ≡ by_rows file.now work.new (bank_env (is_in program.declared) immediates.now inputs.now constants.now) budget 0 0 (state (zeroed registers.old) memory.old) }
 {
-    let declared = program.declared;
     let mut bank = [0u32; BANK_WORDS];
-    bank_into(&mut bank, declared, immediates, inputs, constants);
+    bank_into(&mut bank, program.declared, immediates, inputs, constants);
     write_table(file, program, work);
-    carry_out_cleared(file, work, &bank, registers, memory, budget)
+    let code = Code {
+        file,
+        rows: work,
+        bank: &bank,
+    };
+    clear(registers);
+    carry_out(&code, registers, memory, budget)
 }

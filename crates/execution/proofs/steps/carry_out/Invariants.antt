@@ -7,5 +7,5 @@ use Rattle.execution.proofs.steps.carry_out.Given as goal
 
 abbrev pub invariant-loop-steps : goal.invariant-loop-steps
 invariant-loop-steps l =
-    by_rows l.file l.rows (env_in l.bank) (l.budget - l.steps) l.steps l.n (state l.registers l.memory)
-    ≡ by_rows l.file l.rows (env_in l.bank) l.budget 0 0 (state l.initial.registers l.initial.memory)
+    by_rows l.code.file.now l.code.rows.now (env_in l.code.bank.now) (l.budget - l.steps) l.steps l.n (state l.registers l.memory)
+    ≡ by_rows l.code.file.now l.code.rows.now (env_in l.code.bank.now) l.budget 0 0 (state l.initial.registers l.initial.memory)

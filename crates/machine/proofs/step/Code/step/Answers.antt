@@ -1,7 +1,7 @@
 -- A data instruction, one that only says what comes next, or a kind that is no instruction's.
 use Rattle.std.proofs.Common.{arith}
 use Rattle.machine.proofs.Steps.{data_step, low_step, next_by_bank}
-use Rattle.machine.proofs.step.step.Goals as goal
+use Rattle.machine.proofs.step.Code.step.Goals as goal
 
 pub returns-in_default : goal.returns-in_default
 returns-in_default c =

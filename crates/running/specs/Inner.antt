@@ -1,3 +1,0 @@
--- What functions and laws of the library promise each other: no public contract cites it.
--- Assumes nothing.
-pub mod Came
