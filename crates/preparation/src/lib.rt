@@ -6,19 +6,10 @@ ghost use Rattle.table.specs.Prepared.{filled};
 ghost use Rattle.preparation.specs.Preparing.{prepare_answer, prepare_after, prepare_of};
 
 use blocks::ROW_WORDS;
+use checker::examine;
 use checker::program::Program;
-use checker::{Verdict, examine};
-use format::refusals::WORKING_SHORT;
+use format::refusals::{Refusal, Refused};
 use table::fill;
-
-// What preparing answers.
-#[derive(Clone, Copy)]
-pub enum Prepared {
-    // The table of so many instructions stands in the working words.
-    Ready(u32),
-    // The number of the refusal, and the byte place.
-    Refused(u8, u32),
-}
 
 // Writes the table of a program to the working words; where it cannot be made they stay (`filled`).
 pub fn write_table(file: &[u8], program: Program, work: &mut [u32])
@@ -32,22 +23,19 @@ pub fn write_table(file: &[u8], program: Program, work: &mut [u32])
     );
 }
 
-// Checks a file and writes its table to the working words.
-pub fn prepare(file: &[u8], work: &mut [u32]) -> Prepared
+// Checks a file and writes its table to the working words: that of so many instructions, or the first refusal due.
+#[tactic(auto, using(crate::proofs::Preparing::prepare_short))]
+pub fn prepare(file: &[u8], work: &mut [u32]) -> Result<u32, Refused<u32>>
     ensures { prepare_after (prepare_answer result) work.new ≡ prepare_of file.now work.old }
 {
     let mut immediates = [0u32; 1024];
-    let checked = examine(file, &mut immediates);
-    let verdict = checked.verdict;
-    let program = checked.program;
-    match verdict {
-        Verdict::Refused(number, place) => Prepared::Refused(number, place),
-        Verdict::Accepted(_) => {
-            if work.len() < ROW_WORDS * program.instructions as usize {
-                return Prepared::Refused(WORKING_SHORT, 0);
-            }
-            write_table(file, program, work);
-            Prepared::Ready(program.instructions)
-        }
+    let program = examine(file, &mut immediates)?;
+    if work.len() < ROW_WORDS * program.instructions as usize {
+        return Err(Refused {
+            refusal: Refusal::WorkingShort,
+            place: 0,
+        });
     }
+    write_table(file, program, work);
+    Ok(program.instructions)
 }
