@@ -14,11 +14,11 @@ use Rattle.blocks.specs.Run.{most_instructions}
 use Rattle.blocks.specs.Table.{row_words}
 use Rattle.table.specs.Prepared.{filled}
 use Rattle.checker.specs.declared.program.Program.{Program}
-use Rattle.checker.specs.Check.{accepted, follows, breaks, check_of, program_seen, examined_as, examined}
+use Rattle.checker.specs.Check.{accepted, follows, breaks, told, check_of, program_seen, examined_as, examined}
 use Rattle.checker.specs.Findings.{Seen}
 use Rattle.checker.proofs.Examining.{outcome_is}
 use Rattle.checker.proofs.Followed.{followed}
-use Rattle.preparation.specs.Preparing.{prepare_answer, prepare_after, prepared_in, prepare_of}
+use Rattle.preparation.specs.Preparing.{prepare_after, prepared_in, prepare_of}
 
 -- The table of a file that the check took is made.
 pub table_made : (s : Seen) (file work : List ℕ) → check_of file ≡ accepted s → row_words * s.instructions ≤ length work → filled file s.start s.instructions work ≡ prepared_in s file work
@@ -36,7 +36,7 @@ table_made s file work ok room =
 
 -- The check of the file over words of its own, `none` before it.
 module _ (file words none work : List ℕ) where
-  pub prepare_refused : (e : Refused ℕ) → examined_as (Err e) words ≡ examined (check_of file) none → prepare_after (prepare_answer (Err e)) work ≡ prepare_of file work
+  pub prepare_refused : (e : Refused ℕ) → examined_as (Err e) words ≡ examined (check_of file) none → prepare_after (told (Err e)) work ≡ prepare_of file work
   unfolding prepare_of
   prepare_refused e said = rw (← outcome_is (Err e) words none (check_of file) said)
 

@@ -1,17 +1,12 @@
 -- Preparing alone: the refusals of the check, 23, and the words that it leaves (document 01, Blocks).
 -- Assumes nothing.
-use Rattle.std.specs.Prelude.{ℕ, cond, List, length, Result}
+use Rattle.std.specs.Prelude.{ℕ, cond, List, length}
 use Rattle.std.proofs.lemmas.List.Edits.{sets}
 use Rattle.format.specs.Refusals.{working_short}
-use Rattle.format.specs.declared.refusals.Refused.{Refused}
 use Rattle.table.specs.Prepared.{table_words}
 use Rattle.checker.specs.Findings.{Seen}
-use Rattle.checker.specs.Check.{Told, follows, breaks, told, Outcome, accepted, refused, check_of}
+use Rattle.checker.specs.Check.{Told, follows, breaks, Outcome, accepted, refused, check_of}
 use Rattle.admission.specs.Admission.{work_short}
-
--- Preparing answers as a check does.
-abbrev pub prepare_answer : Result ℕ (Refused ℕ) → Told
-prepare_answer = told
 
 -- Preparing is lent the working words alone.
 pub record Preparation : Type 0 where

@@ -3,7 +3,8 @@
 
 ghost use Rattle.std.specs.Prelude.{◌≡◌};
 ghost use Rattle.table.specs.Prepared.{filled};
-ghost use Rattle.preparation.specs.Preparing.{prepare_answer, prepare_after, prepare_of};
+ghost use Rattle.checker.specs.Check.{told};
+ghost use Rattle.preparation.specs.Preparing.{prepare_after, prepare_of};
 
 use blocks::ROW_WORDS;
 use checker::examine;
@@ -26,7 +27,7 @@ pub fn write_table(file: &[u8], program: Program, work: &mut [u32])
 // Checks a file and writes its table to the working words: that of so many instructions, or the first refusal due.
 #[tactic(auto, using(crate::proofs::Preparing::prepare_short))]
 pub fn prepare(file: &[u8], work: &mut [u32]) -> Result<u32, Refused<u32>>
-    ensures { prepare_after (prepare_answer result) work.new ≡ prepare_of file.now work.old }
+    ensures { prepare_after (told result) work.new ≡ prepare_of file.now work.old }
 {
     let mut immediates = [0u32; 1024];
     let program = examine(file, &mut immediates)?;
