@@ -1,15 +1,15 @@
 -- Fields of bits: when one lies outside the word, and the parts that the code puts together.
-use Rattle.words.specs.Word.{bfi, field, ibfe, outside, replaced, signed, ubfe, word}
+use Rattle.words.specs.Word.{field, outside, replaced, signed, word}
 use Rattle.words.proofs.Signed.{by_sign, signed_high, signed_low, word_negsuc, word_pos}
 use Rattle.words.proofs.Numbers.{ltb_same}
 use Prim.Native.Nat.{◌%◌, ◌*◌, ◌+◌, ◌-◌, ◌/◌, ◌<◌, ◌^◌, ◌≤◌, suc, zero, ℕ}
 use mathlib.Core.Path.{◌∙◌, ◌≡◌, ap, sym}
 use mathlib.Core.Bool.{Bool, false, true}
 use native.Mathlib.Omega.{arith}
-use native.Mathlib.Nat.{add_comm, add-mul, lt_of_lt_of_le, mod-eq_of_lt, mod-le, mod-lt, mul_assoc, one-mul}
-use borrow.Author.Tests.{eq-eqb, le-ltb, lt-ltb, ltb-false, ne_eqb}
+use native.Mathlib.Nat.{add_comm, add-mul, lt_of_lt_of_le, mod-eq_of_lt, mod-lt, mul_assoc, one-mul}
+use borrow.Author.Tests.{le-ltb, lt-ltb, ltb-false}
 use lib.Dec.{ltb}
-use lib.Pow.{pow-add, pow-lt, pow_mono, pow_pos, shr_le, shr_lt}
+use lib.Pow.{pow-add, pow-lt, pow_mono, pow_pos, shr_lt}
 use lib.Arith.{digits_lt}
 
 -- ---- outside, over whole numbers, is one test of the two words' sum
@@ -37,55 +37,13 @@ module _ (w : ℕ) (halves : 2 ^ w ≡ 2 ^ (w - 1) + 2 ^ (w - 1)) (room : w < 2 
   pub inside_bits : (r : Bool) → r ≡ outside w o n → r ≡ false → n ≤ w
   inside_bits r e f = omega (arith, inside r e f)
 
--- ---- the three results, by the test
-
-module _ (w a o n : ℕ) (r : Bool) (e : r ≡ outside w o n) where
-  pub ubfe_out : r ≡ true → 0 ≡ ubfe w a o n
-  unfolding ubfe
-  ubfe_out t = simp (sym e, t)
-
-  pub ubfe_in : (v : ℕ) → r ≡ false → v ≡ field a o n → v ≡ ubfe w a o n
-  unfolding ubfe
-  ubfe_in v t h = simp (sym e, t) h
-
-  pub ibfe_out : r ≡ true → 0 ≡ ibfe w a o n
-  unfolding ibfe
-  ibfe_out t = simp (sym e, t)
-
-  pub ibfe_none : r ≡ false → n ≡ 0 → 0 ≡ ibfe w a o n
-  unfolding ibfe
-  ibfe_none t z = simp (sym e, t, eq-eqb n 0 z)
-
-  pub ibfe_in : (v x : ℕ) → r ≡ false → (n ≡ 0 → ⊥) → v ≡ field a o n → x ≡ word w (signed n v) → x ≡ ibfe w a o n
-  unfolding ibfe
-  ibfe_in v x t z h k = simp (sym e, t, ne_eqb n 0 z) (k ∙ ap (λ (v : ℕ). word w (signed n v)) h)
-
-module _ (w a b o n : ℕ) (r : Bool) (e : r ≡ outside w o n) where
-  pub bfi_out : r ≡ true → a ≡ bfi w a b o n
-  unfolding bfi
-  bfi_out t = simp (sym e, t)
-
-  pub bfi_in : (v : ℕ) → r ≡ false → v ≡ replaced a b o n → v ≡ bfi w a b o n
-  unfolding bfi
-  bfi_in v t h = simp (sym e, t) h
-
 -- ---- the parts
 
 -- 1 shifted by n is 2 ^ n where that fits
 pub power_is : (v n : ℕ) → n < v → 1 * 2 ^ n % 2 ^ v ≡ 2 ^ n
 power_is v n h = ap (λ (k : ℕ). k % 2 ^ v) (one-mul (2 ^ n)) ∙ mod-eq_of_lt (pow-lt h)
 
-pub power_pos : (n p : ℕ) → p ≡ 2 ^ n → zero < p
-power_pos n p e = rw e (pow_pos n)
-
--- a field cut from a word is no longer than the word
-pub cut_fits : (w a o p : ℕ) → a < 2 ^ w → a / 2 ^ o % p < 2 ^ w
-cut_fits w a o p l = omega (arith, mod-le (a / 2 ^ o) p, shr_le a o)
-
-pub cut_is : (a o n p : ℕ) → p ≡ 2 ^ n → a / 2 ^ o % p ≡ field a o n
-cut_is a o n p e = ap (λ (k : ℕ). a / 2 ^ o % k) e
-
--- and has the bits that it says
+-- a field has the bits that it says
 pub cut_lt : (a o n v : ℕ) → v ≡ field a o n → v < 2 ^ n
 cut_lt a o n v e = rw e (mod-lt (a / 2 ^ o) (pow_pos n))
 
@@ -93,20 +51,8 @@ cut_lt a o n v e = rw e (mod-lt (a / 2 ^ o) (pow_pos n))
 joined_below : (k h l n : ℕ) → h < 2 ^ k → h * 2 ^ n + l % 2 ^ n < 2 ^ (k + n)
 joined_below k h l n lh = rw pow-add (digits_lt lh (mod-lt l (pow_pos n)))
 
-pub joined_fits : (k h l n p q : ℕ) → h < 2 ^ k → n ≤ k → p ≡ 2 ^ n → q ≡ 2 ^ n → h * p + l % q < 2 ^ (k + k)
-joined_fits k h l n p q lh ln ep eq = rw (ep, eq) (lt_of_lt_of_le (joined_below k h l n lh) (pow_mono (omega arith)))
-
-pub high_fits : (k h n p : ℕ) → h < 2 ^ k → n ≤ k → p ≡ 2 ^ n → h * p < 2 ^ (k + k)
-high_fits k h n p lh ln ep = omega (arith, joined_fits k h 0 n p p lh ln ep ep)
-
-pub joined_is : (h l n p q : ℕ) → p ≡ 2 ^ n → q ≡ 2 ^ n → h * p + l % q ≡ h * 2 ^ n + l % 2 ^ n
-joined_is h l n p q ep eq = cc
-
 -- bits above a field with the field under them, and bits below the field under both
 module _ (w a b c o n : ℕ) (l : a < 2 ^ w) (h : o + n ≤ w) where
-  pub above_fits : a / 2 ^ (o + n) < 2 ^ w
-  above_fits = omega (arith, shr_le a (o + n))
-
   module _ (u : ℕ) (eu : u ≡ a / 2 ^ (o + n) * 2 ^ n + b % 2 ^ n) where
     upper_lt : u < 2 ^ (w - o)
     upper_lt =
@@ -143,14 +89,6 @@ module _ (w : ℕ) (halves : 2 ^ w ≡ 2 ^ (w - 1) + 2 ^ (w - 1)) (v n : ℕ) (s
   pub extended_low : (p : ℕ) → p ≡ 2 ^ (n - 1) → v < p → v ≡ word w (signed n v)
   extended_low p e h =
       sym (ap (word w) (signed_low n (pow_halves n some) v (rw e at h)) ∙ word_pos w halves v (lt_of_lt_of_le lv (pow_mono l)))
-
-  pub extended_rest : (q : ℕ) → q ≡ 2 ^ n → v ≤ q - 1
-  extended_rest q e = omega (arith, pow_pos n)
-
-  pub extended_fits : (q : ℕ) → q ≡ 2 ^ n → q - 1 - v < 2 ^ w
-  extended_fits q e =
-      let m : 2 ^ n ≤ 2 ^ w = pow_mono l in
-      omega (arith, pow_pos n)
 
   pub extended_high : (p q : ℕ) → p ≡ 2 ^ (n - 1) → q ≡ 2 ^ n → p ≤ v → 2 ^ w - 1 - (q - 1 - v) ≡ word w (signed n v)
   extended_high p q e f h =

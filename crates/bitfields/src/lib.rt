@@ -6,6 +6,7 @@ ghost use Rattle.std.specs.Prelude.{◌≡◌, ◌+◌, ◌*◌, ◌%◌, ◌^�
 ghost use Rattle.words.specs.Word.{signed, word, outside, field, replaced, ubfe, ibfe, bfi};
 
 // UBFE.
+#[tactic(auto, unfolding(words::specs::Word::ubfe))]
 pub fn ubfe32(a: u32, offset: u32, bits: u32) -> u32
     ensures { result ≡ ubfe 32 a offset bits }
 {
@@ -17,6 +18,7 @@ pub fn ubfe32(a: u32, offset: u32, bits: u32) -> u32
 }
 
 // IBFE.
+#[tactic(auto, unfolding(words::specs::Word::ibfe))]
 pub fn ibfe32(a: u32, offset: u32, bits: u32) -> u32
     ensures { result ≡ ibfe 32 a offset bits }
 {
@@ -30,6 +32,7 @@ pub fn ibfe32(a: u32, offset: u32, bits: u32) -> u32
 }
 
 // BFI.
+#[tactic(auto, unfolding(words::specs::Word::bfi))]
 pub fn bfi32(base: u32, insert: u32, offset: u32, bits: u32) -> u32
     ensures { result ≡ bfi 32 base insert offset bits }
 {
@@ -41,6 +44,7 @@ pub fn bfi32(base: u32, insert: u32, offset: u32, bits: u32) -> u32
 }
 
 // Whether the field does not lie within the word. A negative number is over 32 as a word.
+#[tactic(auto, using(crate::proofs::Fields::outside_offset, crate::proofs::Fields::outside_rest))]
 fn is_outside(offset: u32, bits: u32) -> bool
     ensures { result ≡ outside 32 offset bits }
 {
@@ -60,6 +64,7 @@ fn cut(a: u32, offset: u32, bits: u32) -> u32
 }
 
 // A number of `bits` bits with its sign bit in all bits above it.
+#[tactic(auto, using(crate::proofs::Fields::extended_low))]
 fn extended(part: u32, bits: u32) -> u32
     requires { (0 < bits) × (bits ≤ 32) × (part < 2 ^ bits) }
     ensures { result ≡ word 32 (signed bits part) }
@@ -72,6 +77,7 @@ fn extended(part: u32, bits: u32) -> u32
 }
 
 // The base with the field taken from the low bits of `insert`.
+#[tactic(auto, using(crate::proofs::Fields::inserted_is))]
 fn inserted(base: u32, insert: u32, offset: u32, bits: u32) -> u32
     requires { offset + bits ≤ 32 }
     ensures { result ≡ replaced base insert offset bits }
@@ -89,6 +95,7 @@ fn joined(high: u64, low: u64, n: u32) -> u64
 }
 
 // 2^n.
+#[tactic(auto, using(crate::proofs::Fields::power_is))]
 fn power(n: u32) -> u64
     requires { n < 64 }
     ensures { result ≡ 2 ^ n }

@@ -40,6 +40,7 @@ pub fn not32(a: u32) -> u32
 }
 
 // POPC.
+#[tactic(auto, using(crate::proofs::Counts::popc_is))]
 pub fn popc32(a: u32) -> u32
     ensures { result ≡ popc 32 a }
 {
@@ -47,6 +48,7 @@ pub fn popc32(a: u32) -> u32
 }
 
 // LSB.
+#[tactic(auto, using(crate::proofs::Counts::lsb_is, crate::proofs::Counts::lsb_none))]
 pub fn lsb32(a: u32) -> u32
     ensures { result ≡ lsb 32 a }
 {
@@ -58,6 +60,7 @@ pub fn lsb32(a: u32) -> u32
 }
 
 // UMSB.
+#[tactic(auto, using(crate::proofs::Counts::umsb_is, crate::proofs::Counts::umsb_none, crate::proofs::Counts::leading_fits))]
 pub fn umsb32(a: u32) -> u32
     ensures { result ≡ umsb 32 a }
 {
@@ -80,6 +83,7 @@ pub fn imsb32(a: u32) -> u32
 }
 
 // BREV. Halves change places, then the quarters of each half, and so on down to single bits.
+#[tactic(auto, using(crate::proofs::Reversal::reversed))]
 pub fn brev32(a: u32) -> u32
     ensures { result ≡ brev 32 a }
 {
@@ -91,6 +95,7 @@ pub fn brev32(a: u32) -> u32
 }
 
 // The bits of the mask change places with those `distance` above them, which must be all the others.
+#[tactic(auto, using(crate::proofs::Swaps::joined_is))]
 fn swap(a: u32, distance: u32, mask: u32) -> u32
     requires { (distance < 32) × (mask * 2 ^ distance ≡ compl 32 mask) }
     ensures { result ≡ swapped 32 a distance mask }
@@ -99,6 +104,7 @@ fn swap(a: u32, distance: u32, mask: u32) -> u32
 }
 
 // Whether bit i of words of 32 bits is set.
+#[tactic(auto, unfolding(words::specs::Word::bit_in))]
 pub fn bit_in(words: &[u32], i: usize) -> bool
     ensures { result ≡ bit_in words.now i }
 {

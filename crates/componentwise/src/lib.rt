@@ -17,7 +17,13 @@ fn put_word(registers: &mut [u32], first: u32, mask: u8, kind: u8, sources: &[[u
 {
     if is_masked(mask, i) {
         let k = i as usize;
-        let w = word(kind, sources[0][k], sources[1][k], sources[2][k], sources[3][k]);
+        let w = word(
+            kind,
+            sources[0][k],
+            sources[1][k],
+            sources[2][k],
+            sources[3][k],
+        );
         set_word(registers, first as usize + k, w);
     }
 }

@@ -48,9 +48,6 @@ module _ (d : Destination) (r m l : List ℕ) (first : ℕ) (ef : first ≡ firs
 pub stored_to : (r m n : List ℕ) (a x mask : ℕ) (v y : List ℕ) → a ≡ x → v ≡ y → n ≡ stored_from m a mask v → state r n ≡ state r (stored_from m x mask y)
 stored_to r m n a x mask v y ea ev h = cc
 
-pub new_stored : (m l : List ℕ) (a new w : ℕ) → l ≡ stored m a new → new ≡ w → l ≡ stored m a w
-new_stored m l a new w el en = el ∙ ap (stored m a) en
-
 -- ---- the family of a kind
 
 -- a kind of each family, by which two families are told apart

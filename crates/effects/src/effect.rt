@@ -46,12 +46,7 @@ pub fn effect(
     let x = sources[0][0];
     match kind {
         0x10..=0x1a => write_words(registers, first, mask, kind, sources),
-        0x1b..=0x1d => write(
-            registers,
-            first,
-            mask,
-            wide_unary_words(kind, sources[0]),
-        ),
+        0x1b..=0x1d => write(registers, first, mask, wide_unary_words(kind, sources[0])),
         0x1e => write(registers, first, mask, load_from(memory, x)),
         0x20..=0x37 => write_words(registers, first, mask, kind, sources),
         0x40..=0x52 => {

@@ -13,7 +13,11 @@ use destinations::lent::{set_word, word_at};
 pub fn load(memory: &[u32], address: usize) -> u32
     ensures { result ≡ loaded memory.now address }
 {
-    if address % 4 == 0 { word_at(memory, address / 4) } else { 0 }
+    if address % 4 == 0 {
+        word_at(memory, address / 4)
+    } else {
+        0
+    }
 }
 
 // Writes the word at an address.
@@ -21,9 +25,10 @@ pub fn load(memory: &[u32], address: usize) -> u32
 pub fn store(memory: &mut [u32], address: usize, word: u32)
     ensures { memory.new ≡ stored memory.old address word }
 {
-    if address % 4 == 0 {
-        set_word(memory, address / 4, word);
+    if address % 4 != 0 {
+        return;
     }
+    set_word(memory, address / 4, word);
 }
 
 // The four words from an address on.

@@ -15,6 +15,7 @@ use words::sums::{add, iabs, neg, ssg};
 pub mod wide;
 
 // A result on words, from one component of each source: the table of kinds, in its order.
+#[tactic(auto, unfolding(crate::specs::Arithmetic::result_word, crate::specs::Arithmetic::unary, crate::specs::Arithmetic::binary, crate::specs::Arithmetic::ternary))]
 pub fn word(kind: u8, a: u32, b: u32, c: u32, d: u32) -> u32
     ensures { result ≡ result_word kind a b c d }
 {
@@ -64,6 +65,7 @@ pub fn word(kind: u8, a: u32, b: u32, c: u32, d: u32) -> u32
 }
 
 // What an atomic stores, by the old word and src1.x.
+#[tactic(auto, unfolding(crate::specs::Arithmetic::atomic))]
 pub fn atomic_word(kind: u8, old: u32, b: u32) -> u32
     ensures { result ≡ atomic kind old b }
 {

@@ -14,6 +14,7 @@ fn pair_of(low: u32, high: u32) -> u64
     low as u64 + high as u64 * 0x1_0000_0000
 }
 
+#[tactic(auto, unfolding(crate::specs::Arithmetic::halves))]
 fn halves_of(xy: u64, zw: u64) -> [u32; 4]
     ensures { result ≡ halves xy zw }
 {
@@ -25,6 +26,7 @@ fn halves_of(xy: u64, zw: u64) -> [u32; 4]
     ]
 }
 
+#[tactic(auto, unfolding(crate::specs::Arithmetic::wide_unary))]
 fn wide_unary_value(kind: u8, a: u64) -> u64
     ensures { result ≡ wide_unary kind a }
 {
@@ -36,6 +38,7 @@ fn wide_unary_value(kind: u8, a: u64) -> u64
     }
 }
 
+#[tactic(auto, unfolding(crate::specs::Arithmetic::wide_unary_of))]
 pub fn wide_unary_words(kind: u8, a: [u32; 4]) -> [u32; 4]
     ensures { result ≡ wide_unary_of kind a }
 {
@@ -44,6 +47,7 @@ pub fn wide_unary_words(kind: u8, a: [u32; 4]) -> [u32; 4]
     halves_of(xy, zw)
 }
 
+#[tactic(auto, unfolding(crate::specs::Arithmetic::wide))]
 fn wide_value(kind: u8, a: u64, b: u64) -> u64
     ensures { result ≡ wide kind a b }
 {
@@ -72,6 +76,7 @@ fn wide_value(kind: u8, a: u64, b: u64) -> u64
 }
 
 // The second operand: a shift takes its count from one word.
+#[tactic(auto, unfolding(crate::specs::Arithmetic::count_or))]
 fn count_or(kind: u8, count: u32, value: u64) -> u64
     ensures { result ≡ count_or kind count value }
 {
@@ -81,6 +86,7 @@ fn count_or(kind: u8, count: u32, value: u64) -> u64
     if kind <= 0x4c { count as u64 } else { value }
 }
 
+#[tactic(auto, unfolding(crate::specs::Arithmetic::wide_of))]
 pub fn wide_words(kind: u8, a: [u32; 4], b: [u32; 4]) -> [u32; 4]
     ensures { result ≡ wide_of kind a b }
 {

@@ -10,7 +10,7 @@ use bits::bit_in;
 use destinations::lent::word_at;
 use format::fields::{Source, indirection, negates};
 use format::files::{ADDR_FROM, CONST, IMM, IN, TEMP, TEMP_FROM};
-use words::sums::neg32;
+use words::sums::neg;
 
 // Whether a CONST or TEMP register is declared.
 #[tactic(auto, unfolding(crate::specs::Bank::declared_in))]
@@ -69,7 +69,7 @@ fn pick(words: &[u32], first: usize, s: Source) -> [u32; 4]
     let z = selected_word(words, first, s.swizzle, 2);
     let w = selected_word(words, first, s.swizzle, 3);
     if negates(s) {
-        [neg32(x), neg32(y), neg32(z), neg32(w)]
+        [neg(x), neg(y), neg(z), neg(w)]
     } else {
         [x, y, z, w]
     }
