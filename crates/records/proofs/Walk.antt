@@ -10,14 +10,10 @@ use native.Mathlib.Numerals.{add-one}
 use native.Mathlib.Nat.{add-zero, add-suc, add-sub_cancel_left}
 use lib.Dec.{leb, ltb, eqb}
 use lib.ListN.{length, get_or, take, drop}
-use borrow.Author.Tests.{ltb-true, leb-true, eqb-true, eqb-false, eq-eqb, ne_eqb, le-ltb, lt-ltb, le-leb, lt-leb}
+use borrow.Author.Tests.{ltb-true, leb-true, eqb-true, eqb-false, eq-eqb, ne_eqb, le-ltb, lt-ltb, le-leb}
 use Rattle.format.specs.Kinds.{length_of}
 use Rattle.format.specs.declared.records.Bounds.{Bounds}
 use Rattle.format.specs.Records.{longest, size_at, next, place_from, size_of, start_of, record_of, bounds_of}
-
-and_false : (t : Bool) → t && false ≡ false
-and_false true = refl
-and_false false = refl
 
 chosen_within : (t : Bool) (l k : ℕ) → k ≤ l → cond t l k ≤ l
 chosen_within true l k h = omega arith
@@ -26,18 +22,9 @@ chosen_within false l k h = h
 module _ (file : List ℕ) where
   -- ---- The size of a record
 
-  module _ (at k : ℕ) (e : k ≡ length_of (get_or file at 0)) where
-    pub size_whole : at < length file → k < 255 → k + 1 ≤ length file - at → k + 1 ≡ size_at file at
-    unfolding size_at
-    size_whole h l f = rw (← e) (rw (lt-ltb at (length file) h, lt-ltb k 255 l, le-leb (k + 1) (length file - at) f))
-
-    pub size_cut : length file - at < k + 1 → 0 ≡ size_at file at
-    unfolding size_at
-    size_cut f = rw (← e) (rw (lt-leb (k + 1) (length file - at) f, and_false))
-
-    pub size_unknown : 255 ≤ k → 0 ≡ size_at file at
-    unfolding size_at
-    size_unknown f = rw (← e) (rw (le-ltb k 255 f, and_false))
+  pub size_whole : (at k : ℕ) → k ≡ length_of (get_or file at 0) → at < length file → k < 255 → k + 1 ≤ length file - at → k + 1 ≡ size_at file at
+  unfolding size_at
+  size_whole at k e h l f = rw (← e) (rw (lt-ltb at (length file) h, lt-ltb k 255 l, le-leb (k + 1) (length file - at) f))
 
   pub size_past : (at : ℕ) → length file ≤ at → 0 ≡ size_at file at
   unfolding size_at

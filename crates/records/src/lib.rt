@@ -8,6 +8,7 @@ use format::kinds::{UNKNOWN, body_length};
 use format::records::{Bounds, LONGEST};
 
 // The size of the whole record, kind and body, that starts at a place; 0 where there is none.
+#[tactic(auto, unfolding(format::specs::Records::size_at))]
 pub fn size_at(file: &[u8], at: usize) -> usize
     ensures { result ≡ size_at file.now at }
 {
@@ -34,15 +35,13 @@ pub fn record_bounds(file: &[u8], n: usize) -> Bounds
     if LONGEST < file.len() {
         return none;
     }
-    let mut at: usize = 0;
-    let mut i: usize = 0;
-    while i < n {
+    let mut at = 0;
+    for _ in 0..n {
         let size = size_at(file, at);
         if size == 0 {
             return none;
         }
         at += size;
-        i += 1;
     }
     let size = size_at(file, at);
     if size == 0 {
