@@ -4,7 +4,6 @@ use mathlib.Core.Path.{◌≡◌, refl, ap, ◌∙◌}
 use Prim.Native.Nat.{ℕ, zero, suc, ◌+◌, ◌*◌, ◌<◌, ◌≤◌}
 use native.Mathlib.Omega.{arith}
 use native.Mathlib.Nat.{add-zero, add-suc, suc-add}
-use native.Mathlib.Numerals.{add-one}
 use mathlib.Core.List.{List, [], ◌∷◌, ◌++◌}
 use lib.ListN.{length, get_or, set, drop, get_or-append}
 use lib.Seq.{sets, sets-eq}
@@ -57,9 +56,3 @@ rows_then place n m R R' w w1 w2 a e b =
 -- Words stored from the front.
 pub get_or_stored : (l vs : List ℕ) (i : ℕ) → length vs ≤ length l → i < length vs → get_or (sets l 0 vs) i 0 ≡ get_or vs i 0
 get_or_stored l vs i h k = rw (sets-eq vs l 0 (omega arith)) (get_or-append vs (drop (0 + length vs) l) 0 i k)
-
--- Three stores one after the other.
-pub stores : (l : List ℕ) (i a b c : ℕ) → set (set (set l i a) (i + 1) b) (i + 2) c ≡ sets l i (a ∷ b ∷ c ∷ [])
-stores l i a b c =
-    let two : i + 2 ≡ suc (suc i) = omega arith in
-    rw (add-one i, two)
