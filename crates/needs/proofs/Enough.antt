@@ -10,11 +10,10 @@ use borrow.Author.Tests.{lt-ltb, le-ltb}
 use lib.Dec.{eqb, ltb}
 use Rattle.format.specs.Files.{lent_registers}
 use Rattle.format.specs.Refusals.{inputs_short, constants_short, registers_short, working_short, memory_long}
-use Rattle.blocks.specs.Table.{row_words}
 use Rattle.checker.specs.Findings.{Seen}
 use Rattle.checker.specs.Check.{Outcome, accepted, refused, check_of}
 use Rattle.admission.specs.declared.Sizes.{Sizes}
-use Rattle.admission.specs.Admission.{work_short, lent_refusal, admitted, admission_of}
+use Rattle.admission.specs.Admission.{work_short, lent_refusal, admission_of}
 use Rattle.needs.specs.Needs.{needed, needs_in, needs_of}
 
 -- Whether an outcome is the refusal of this number, at whatever place.

@@ -3,6 +3,7 @@
 #![tactic(auto)]
 
 ghost use Rattle.std.specs.Prelude.{◌≡◌, [], ◌*◌, ◌^◌};
+ghost use Rattle.format.specs.Refusals.{number_of};
 ghost use Rattle.words.specs.Word.{bit, sum};
 ghost use Rattle.registers.specs.Sets.{is_in};
 ghost use Rattle.checker.specs.Check.{program_seen};
@@ -10,9 +11,10 @@ ghost use Rattle.needs.specs.Needs.{outputs_in, memory_in, needed, denied, needs
 ghost use Rattle.needs.specs.Inner.Small.{Small};
 
 use blocks::ROW_WORDS;
+use checker::examine;
 use checker::program::Program;
-use checker::{Verdict, examine};
 use format::files::MEM;
+use format::refusals::Refused;
 use registers::sets::{Declared, is_declared};
 
 // Status 0: the file is a program, with the number of its instructions first and 0 second. Status 2: it is refused, with the
@@ -44,6 +46,7 @@ fn of_bits(word: u32) -> u32
 }
 
 // The declared OUT, one bit each.
+#[tactic(auto, using(crate::proofs::Outputs::outputs_are))]
 fn outputs_in(declared: Declared) -> u32
     ensures { result ≡ outputs_in (is_in declared) }
 {
@@ -58,6 +61,7 @@ fn memory_in(declared: Declared) -> u32
 }
 
 // Of a program that the check accepted.
+#[tactic(auto, unfolding(crate::specs::Needs::needed))]
 fn needed(program: Program) -> Needs
     requires { Small program }
     ensures { result ≡ needed (program_seen program [] []) }
@@ -79,13 +83,13 @@ fn needed(program: Program) -> Needs
 }
 
 // Of a file that is refused.
-fn denied(number: u8, place: u32) -> Needs
-    ensures { result ≡ denied number place }
+fn denied(refused: Refused<u32>) -> Needs
+    ensures { result ≡ denied (number_of refused.refusal) refused.place }
 {
     Needs {
         status: REFUSED,
-        first: number as u32,
-        second: place,
+        first: refused.refusal.number() as u32,
+        second: refused.place,
         instructions: 0,
         work: 0,
         inputs: 0,
@@ -96,15 +100,13 @@ fn denied(number: u8, place: u32) -> Needs
 }
 
 // What a run of a file needs, or the first refusal due.
+#[tactic(auto, using(crate::proofs::Answering::file_small, crate::proofs::Answering::file_needs))]
 pub fn needs_of(file: &[u8]) -> Needs
     ensures { result ≡ needs_of file.now }
 {
     let mut immediates = [0u32; 1024];
-    let checked = examine(file, &mut immediates);
-    let verdict = checked.verdict;
-    let program = checked.program;
-    match verdict {
-        Verdict::Refused(number, place) => denied(number, place),
-        Verdict::Accepted(_) => needed(program),
+    match examine(file, &mut immediates) {
+        Ok(program) => needed(program),
+        Err(refused) => denied(refused),
     }
 }

@@ -1,6 +1,6 @@
 -- The numbers of a program that the check accepted: no register past its file is declared, and the instructions are counted.
 -- Assumes nothing.
-use Rattle.std.specs.Prelude.{ℕ, ◌≤◌}
+use Rattle.std.specs.Prelude.{◌≤◌}
 use Rattle.format.specs.Files.{CONST, IN, registers_of}
 use Rattle.blocks.specs.Run.{most_instructions}
 use Rattle.checker.specs.declared.program.Program.{Program}
