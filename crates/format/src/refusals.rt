@@ -114,6 +114,18 @@ pub struct Refused<P> {
     pub place: P,
 }
 
+// Of a program file that a text gives, or that is written as one.
+impl From<Refused<u32>> for Refused<usize> {
+    ghost from_gives = { λ of_file refused. refused ≡ of_file };
+
+    fn from(of_file: Refused<u32>) -> Refused<usize> {
+        Refused {
+            refusal: of_file.refusal,
+            place: of_file.place as usize,
+        }
+    }
+}
+
 // The same numbers alone.
 
 // "file over 65,536 bytes (place 0, before all else)"

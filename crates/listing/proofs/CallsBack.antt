@@ -12,7 +12,8 @@ use borrow.Author.Tests.{ltb-false}
 use Rattle.format.specs.Fields.{Bytes}
 use Rattle.checker.specs.Check.{Outcome, accepted, refused, check_of}
 use Rattle.checker.specs.Findings.{Seen}
-use Rattle.text.specs.Output.{Answer, wrote, refusal, Written, written, output_short, delivered}
+use Rattle.format.specs.Refusals.{output_short}
+use Rattle.text.specs.Output.{Answer, wrote, refusal, Written, written, delivered}
 use Rattle.listing.specs.Calls.{delivered_if, print_of, read_as, read_of}
 use Rattle.listing.specs.Listing.{listing_of}
 use Rattle.listing.specs.Reading.{Reading, spelled, malformed, bytes_of}

@@ -9,8 +9,10 @@ use borrow.Author.Tests.{ltb-false}
 use lib.Dec.{ltb}
 use lib.ListN.{length}
 use lib.Seq.{sets, length-sets}
-use Rattle.text.specs.declared.output.Filled.{Filled}
-use Rattle.text.specs.Output.{Answer, wrote, refusal, Written, answered, written, output_short, delivered}
+use Rattle.std.specs.Prelude.{Result, Ok}
+use Rattle.format.specs.declared.refusals.Refused.{Refused}
+use Rattle.format.specs.Refusals.{output_short}
+use Rattle.text.specs.Output.{Answer, wrote, refusal, Written, answered, written, delivered}
 use Rattle.checker.specs.Check.{Outcome, accepted, refused, check_of}
 use Rattle.listing.specs.Listing.{listing_of}
 use Rattle.listing.specs.Reading.{Reading, spelled, malformed, bytes_of}
@@ -52,11 +54,11 @@ read_is_within text output = read_as_within (bytes_of text) output
 
 -- From a call's contract and its answer.
 pub print_within :
-    (file before after : List ℕ) (r : Filled) (n : ℕ)
-    → written (answered r) after ≡ print_of file before → r ≡ Filled.Wrote n → n ≤ length after
+    (file before after : List ℕ) (r : Result ℕ (Refused ℕ)) (n : ℕ)
+    → written (answered r) after ≡ print_of file before → r ≡ Ok n → n ≤ length after
 print_within file before after r n e is = subst Within (sym (rw is at e)) (print_is_within file before)
 
 pub read_within :
-    (text before after : List ℕ) (r : Filled) (n : ℕ)
-    → written (answered r) after ≡ read_of text before → r ≡ Filled.Wrote n → n ≤ length after
+    (text before after : List ℕ) (r : Result ℕ (Refused ℕ)) (n : ℕ)
+    → written (answered r) after ≡ read_of text before → r ≡ Ok n → n ≤ length after
 read_within text before after r n e is = subst Within (sym (rw is at e)) (read_is_within text before)

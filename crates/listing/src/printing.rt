@@ -5,8 +5,8 @@ ghost use Rattle.format.specs.Records.{longest};
 ghost use Rattle.text.specs.Output.{answered, written, delivered};
 ghost use Rattle.listing.specs.Listing.{listing_of};
 
+use format::refusals::{Refusal, Refused};
 use lines::put_ended_line;
-use text::output::{Filled, OUTPUT_SHORT};
 
 // Puts the lines of a file's records, and answers how many bytes they are.
 fn put_listing(file: &[u8], output: &mut [u8]) -> usize
@@ -27,14 +27,17 @@ fn put_listing(file: &[u8], output: &mut [u8]) -> usize
 }
 
 // Delivers the listing of a file. It is put twice: into no byte, to learn its length, and then into the output.
-pub fn deliver_lines(file: &[u8], output: &mut [u8]) -> Filled
+pub fn deliver_lines(file: &[u8], output: &mut [u8]) -> Result<usize, Refused<usize>>
     requires { length file.now ≤ longest }
     ensures { written (answered result) output.new ≡ delivered (listing_of file.now) output.old }
 {
     let mut none = [0u8; 0];
     let length = put_listing(file, &mut none);
     if output.len() < length {
-        return Filled::Refused(OUTPUT_SHORT, 0);
+        return Err(Refused {
+            refusal: Refusal::OutputShort,
+            place: 0,
+        });
     }
-    Filled::Wrote(put_listing(file, output))
+    Ok(put_listing(file, output))
 }

@@ -1,12 +1,15 @@
 // Reading a listing: each line's numbers give a record, and the line must be that record's own.
-ghost use Rattle.std.specs.Prelude.{◌≡◌, cond, ◌≤◌, length, Some, None, IfSome};
+ghost use Rattle.std.specs.Prelude.{◌≡◌, cond, ◌≤◌, length, Some, None, IfSome, Err};
 ghost use Rattle.std.proofs.lemmas.List.Edits.{sets};
 ghost use Rattle.format.specs.Records.{longest};
+ghost use Rattle.format.specs.Refusals.{malformed_line};
+ghost use Rattle.text.specs.Output.{answered, refusal};
 ghost use Rattle.spelling.specs.Spelling.{line_record, well_formed};
 ghost use Rattle.listing.specs.Reading.{bytes_of};
 ghost use Rattle.listing.specs.Inner.Spelt.{counted_on, Spelt};
 
 use format::records::LONGEST;
+use format::refusals::{Refusal, Refused};
 use spelling::{is_line_of, put_record};
 use text::output::put_all;
 use text::parts::{LINE_FEED, first_part, rest_from};
@@ -15,6 +18,17 @@ use text::parts::{LINE_FEED, first_part, rest_from};
 #[derive(Clone, Copy)]
 pub struct MalformedLine {
     pub place: usize,
+}
+
+impl From<MalformedLine> for Refused<usize> {
+    ghost from_gives = { λ line refused. answered (Err refused) ≡ refusal malformed_line line.place };
+
+    fn from(line: MalformedLine) -> Refused<usize> {
+        Refused {
+            refusal: Refusal::MalformedLine,
+            place: line.place,
+        }
+    }
 }
 
 // A count with so many bytes more; past the longest file it is not counted on.

@@ -8,7 +8,8 @@ use native.Mathlib.Nat.{add-zero, add-suc, suc-add}
 use lib.ListN.{length, set, drop, take}
 use lib.Seq.{sets, set_comm, set_out, sets-eq, take_at}
 use borrow.Author.Tests.{lt-ltb, le-ltb}
-use Rattle.text.specs.Output.{refusal, wrote, written, output_short, delivered}
+use Rattle.format.specs.Refusals.{output_short}
+use Rattle.text.specs.Output.{refusal, wrote, written, delivered}
 
 pub sets_append : (l : List ℕ) (i : ℕ) (vs ws : List ℕ) → sets l i (vs ++ ws) ≡ sets (sets l i vs) (i + length vs) ws
 sets_append l i [] ws = rw (add-zero i)

@@ -3,17 +3,7 @@ ghost use Rattle.std.specs.Prelude.{◌≡◌, ◌+◌, set, drop};
 ghost use Rattle.std.proofs.lemmas.List.Edits.{sets};
 ghost use Rattle.text.specs.Output.{answered, written, delivered};
 
-// What a call that writes to a lent output answers.
-#[derive(Clone, Copy)]
-pub enum Filled {
-    // How many bytes it wrote, from the front.
-    Wrote(usize),
-    // The number of the refusal, and the byte place.
-    Refused(u8, usize),
-}
-
-// "31 output short"
-pub const OUTPUT_SHORT: u8 = 31;
+use format::refusals::{Refusal, Refused};
 
 // Puts a byte k places after a place. Past the end nothing is put, nor where the sum is past every end. (Of a slice's `get_mut` no
 // contract says what the slice holds afterwards.)
@@ -43,13 +33,16 @@ pub fn move_to_front(text: &mut [u8], from: usize)
     text.copy_within(from.., 0);
 }
 
-// Writes bytes from the output's front, or nothing where it is too short for all of them.
-pub fn deliver(bytes: &[u8], output: &mut [u8]) -> Filled
+// Writes bytes from the output's front and answers how many, or writes nothing where it is too short for all of them.
+pub fn deliver(bytes: &[u8], output: &mut [u8]) -> Result<usize, Refused<usize>>
     ensures { written (answered result) output.new ≡ delivered bytes.now output.old }
 {
     if output.len() < bytes.len() {
-        return Filled::Refused(OUTPUT_SHORT, 0);
+        return Err(Refused {
+            refusal: Refusal::OutputShort,
+            place: 0,
+        });
     }
     put_all(output, 0, bytes);
-    Filled::Wrote(bytes.len())
+    Ok(bytes.len())
 }
