@@ -26,7 +26,6 @@ use Rattle.checker.specs.Findings.{Seen}
 use Rattle.checker.proofs.Followed.{followed}
 use Rattle.destinations.specs.Destinations.{State}
 use Rattle.effects.specs.Effect.{effect_of, family_of, x_of}
-use Rattle.sources.specs.Bank.{env_in}
 use Rattle.sources.specs.Operands.{Env, kind_byte}
 use Rattle.machine.specs.Step.{machine_of, record_effect}
 use Rattle.lending.specs.Lent.{bank_env}
@@ -129,11 +128,3 @@ module _ (s : Seen) (file : List ℕ) (ok : check_of file ≡ accepted s) (input
         rows_run file rows bank_of budget 0 0 from
         (λ k m d t there. omega (arith, halts_inside k from m d t (sym (runs_read k from) ∙ there), (followed file s ok).1.most))
         ∙ runs_read budget from
-
-    -- What `carry_out` leaves over a bank that holds what the program reads.
-    pub came_read : (bank : List ℕ) (budget : ℕ) (from : State) (r : Reading State)
-        → env_in bank ≡ bank_of
-        → r ≡ by_rows file rows (env_in bank) budget 0 0 from
-        → r ≡ carried_out s file inputs constants budget from
-    came_read bank budget from r env_is came =
-        came ∙ ap (λ (e : Env). by_rows file rows e budget 0 0 from) env_is ∙ rows_read budget from

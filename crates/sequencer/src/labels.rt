@@ -11,6 +11,7 @@ use blocks::{MOST_INSTRUCTIONS, control};
 use readers::{byte_at, case_word};
 
 // Whether the record at a place of the file, which has this kind, is the CASE of x.
+#[tactic(auto, using(crate::proofs::Walks::case_by_word, crate::proofs::Walks::no_case))]
 fn is_case(file: &[u8], immediates: &[u32], place: usize, kind: u8, x: u32) -> bool
     requires { kind ≡ get_or file.now place 0 }
     ensures { result ≡ is_case_at immediates.now file.now place x }
