@@ -3,7 +3,7 @@ ghost use Rattle.std.specs.Prelude.{◌≡◌, ◌≤◌, IfSome, MatchOption};
 ghost use Rattle.std.specs.Str.{IsUtf8};
 ghost use Rattle.io.specs.Counts.{IsPrefixLen};
 
-use crate::reasons::{fail, ok_or_told};
+use crate::reasons::ok_or_told;
 use std::fs::File;
 use std::io;
 
@@ -17,13 +17,8 @@ const NO_TEXT: i32 = 84;
 pub fn text_of<'a>(rt: &HostRuntime, path: &'a [u8]) -> Option<&'a str>
     ensures { MatchOption result (¬ (IsUtf8 path.now)) (λ name. (name.now ≡ path.now) × IsUtf8 path.now) }
 {
-    match str::from_utf8(path) {
-        Ok(name) => Some(name),
-        Err(_) => {
-            fail(rt, path, &io::Error::from_raw_os_error(NO_TEXT));
-            None
-        }
-    }
+    let name = str::from_utf8(path).map_err(|_| io::Error::from_raw_os_error(NO_TEXT));
+    ok_or_told(rt, path, name)
 }
 
 // Opens a file, and answers none after a line with the system's reason.

@@ -46,10 +46,6 @@ impl Builder {
     // The whole file, its last record END.
     pub fn end(&mut self) -> &[u8] {
         self.append(b"\x89");
-        self.file()
-    }
-
-    pub fn file(&self) -> &[u8] {
         let length = ROOM.min(self.bytes.position() as usize);
         &self.bytes.get_ref()[..length]
     }

@@ -15,13 +15,15 @@ fn case(rt: &impl Print, name: &str, n: usize, file: &[u8], lent: Lent) {
     outcomes::outcome_line(rt, lent::run(file, lent));
 }
 
-// An immediate, blocks inside each other, so deep, and END.
-fn depth(rt: &impl Print, name: &str, opening: &[u8], closing: &[u8], deep: u32) {
-    let mut file = Builder::new();
-    file.immediates(1);
-    file.repeat(opening, deep);
-    file.repeat(closing, deep);
-    case(rt, name, deep as usize, file.end(), MOST);
+// An immediate, blocks inside each other, 16 deep and 17 deep, and END.
+fn depth(rt: &impl Print, name: &str, opening: &[u8], closing: &[u8]) {
+    for deep in 16..=17 {
+        let mut file = Builder::new();
+        file.immediates(1);
+        file.repeat(opening, deep);
+        file.repeat(closing, deep);
+        case(rt, name, deep as usize, file.end(), MOST);
+    }
 }
 
 // "At most 16 are open." With 16: each block's opening is a step, and each block has one more, ENDIF, BRK (which goes past
@@ -31,12 +33,9 @@ fn depth(rt: &impl Print, name: &str, opening: &[u8], closing: &[u8], deep: u32)
 fn depths(rt: &impl Print) {
     let uif = b"\x90\x06\x00\x00\x00\x00";
     let switch = b"\x91\x06\x00\x00\x00\x00\x92\x06\x00\x00\x00\x00";
-    depth(rt, "UIF depth", uif, b"\x82", 16);
-    depth(rt, "UIF depth", uif, b"\x82", 17);
-    depth(rt, "loop depth", b"\x83", b"\x85\x84", 16);
-    depth(rt, "loop depth", b"\x83", b"\x85\x84", 17);
-    depth(rt, "SWITCH depth", switch, b"\x88", 16);
-    depth(rt, "SWITCH depth", switch, b"\x88", 17);
+    depth(rt, "UIF depth", uif, b"\x82");
+    depth(rt, "loop depth", b"\x83", b"\x85\x84");
+    depth(rt, "SWITCH depth", switch, b"\x88");
 }
 
 // So many NOPs, and END.
@@ -87,59 +86,31 @@ fn lengths(rt: &impl Print) {
     case(rt, "bytes", 65537, &nops, MOST);
 }
 
-// Declarations of IN[31] and CONST[1023], and END: one instruction.
-fn lent_case(rt: &impl Print, name: &str, n: usize, lent: Lent) {
+// Declarations of IN[31] and CONST[1023], and END, one instruction, with each of two numbers of lent words of a sort.
+fn lent_cases<F: Fn(usize) -> Lent>(rt: &impl Print, name: &str, numbers: [usize; 2], lent: F)
+    requires { F.IsAlwaysCallable lent }
+{
     let program = b"\x01\x02\x1f\x00\x1f\x00\x01\x01\xff\x03\xff\x03\x89";
-    case(rt, name, n, program, lent);
+    for n in numbers {
+        case(rt, name, n, program, lent(n));
+    }
 }
 
 // "20-24 .. in order, place 0: inputs, constants shorter than 4·(highest declared+1) words; registers under 1,156; working
 // words under 3 per instruction; memory over 16,384 words." The program asks for 128, 4,096, 1,156 and 3 words, and with
 // enough of each it ends in 1 step.
 fn lent_words(rt: &impl Print) {
-    let enough = Lent { work: 3, ..MOST };
-    lent_case(rt, "inputs, words", 128, enough);
-    lent_case(
-        rt,
-        "inputs, words",
-        127,
-        Lent {
-            inputs: 127,
-            ..enough
-        },
-    );
-    lent_case(rt, "constants, words", 4096, enough);
-    lent_case(
-        rt,
-        "constants, words",
-        4095,
-        Lent {
-            constants: 4095,
-            ..enough
-        },
-    );
-    lent_case(rt, "registers, words", 1156, enough);
-    lent_case(
-        rt,
-        "registers, words",
-        1155,
-        Lent {
-            registers: 1155,
-            ..enough
-        },
-    );
-    lent_case(rt, "working words", 3, enough);
-    lent_case(rt, "working words", 2, Lent { work: 2, ..enough });
-    lent_case(rt, "memory, words", 16384, enough);
-    lent_case(
-        rt,
-        "memory, words",
-        16385,
-        Lent {
-            memory: 16385,
-            ..enough
-        },
-    );
+    let lent = Lent { work: 3, ..MOST };
+    let inputs = |inputs| Lent { inputs, ..lent };
+    let constants = |constants| Lent { constants, ..lent };
+    let registers = |registers| Lent { registers, ..lent };
+    let work = |work| Lent { work, ..lent };
+    let memory = |memory| Lent { memory, ..lent };
+    lent_cases(rt, "inputs, words", [128, 127], inputs);
+    lent_cases(rt, "constants, words", [4096, 4095], constants);
+    lent_cases(rt, "registers, words", [1156, 1155], registers);
+    lent_cases(rt, "working words", [3, 2], work);
+    lent_cases(rt, "memory, words", [16384, 16385], memory);
 }
 
 fn main(rt: HostRuntime) {

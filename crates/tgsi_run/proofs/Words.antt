@@ -3,7 +3,6 @@
 use Prim.Native.Nat.{ℕ, suc, ◌+◌, ◌-◌, ◌*◌, ◌<◌, ◌≤◌}
 use mathlib.Core.Path.{◌≡◌}
 use mathlib.Core.List.{List}
-use native.Mathlib.Nat.{sub-zero}
 use native.Mathlib.Numerals.{add-one}
 use native.Mathlib.Omega.{arith}
 use lib.ListN.{set}
@@ -17,10 +16,6 @@ left words bytes i n = sets words i (words_in bytes (4 * i) (n - i))
 
 abbrev pub whole : List ℕ → List ℕ → ℕ → List ℕ
 whole words bytes n = sets words 0 (words_in bytes 0 n)
-
--- Before the loop all is left.
-pub put_none : (words bytes : List ℕ) (n : ℕ) → left words bytes 0 n ≡ whole words bytes n
-put_none words bytes n = rw sub-zero
 
 -- A turn of the loop.
 pub put_next :
