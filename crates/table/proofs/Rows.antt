@@ -8,7 +8,7 @@ use native.Mathlib.Omega.{arith}
 use native.Mathlib.Numerals.{add-one}
 use lib.ListN.{length, get_or}
 use lib.Seq.{sets, length-sets}
-use Rattle.blocks.specs.Control.{Op, PLAIN, ELSE, ENDIF, BGNLOOP, ENDLOOP, BRK, CONT, DEFAULT, ENDSWITCH, END, UIF, SWITCH, CASE, is_label, closes, op_of}
+use Rattle.blocks.specs.Control.{Op, PLAIN, ELSE, ENDIF, BGNLOOP, ENDLOOP, BRK, CONT, DEFAULT, ENDSWITCH, END, UIF, SWITCH, CASE, is, is_label, closes, op_of}
 use Rattle.blocks.specs.Lists.{Items, nil, one, uif, loop, switch, size}
 use Rattle.blocks.specs.Nesting.{opens}
 use Rattle.blocks.specs.Run.{most_instructions}
@@ -19,7 +19,7 @@ use Rattle.lists.specs.Lists.{block_of, op_in, list_in, block_in}
 use Rattle.rows.specs.Opened.{past_first, first_row, opened_by, inside_of}
 use Rattle.rows.specs.declared.Opened.{Opened}
 use Rattle.table.specs.Inner.Rows.{words_in, Near}
-use Rattle.lists.proofs.Laid.{Laid, list_laid, laid_label}
+use Rattle.lists.proofs.Laid.{Laid, cond_cases, list_laid, laid_label}
 use Rattle.lists.proofs.Readers.{list_within, past_end, at_none, at_last, at_plain, at_opening, at_loop, at_switch, at_uif, block_some}
 use Rattle.lists.proofs.Tests.{uif_kind, loop_kind, switch_kind, opening_kind, last_no_label}
 use Rattle.table.proofs.Words.{rows_then}
@@ -69,38 +69,18 @@ module _ (kinds : List ℕ) (few : length kinds ≤ most_instructions) where
         within (loop m l rest) w = omega arith
         within (switch m l rest) w = laid_label (op_in kinds) (length kinds) l (suc n) w.2
 
-near_of : (b c a : ℕ)
-    → b ≤ most_instructions
-    → c ≤ most_instructions
-    → a ≤ most_instructions
-    → Near (record { brk = b; cont = c; after = a })
-near_of b c a hb hc ha = record { brk = hb; cont = hc; after = ha }
-
 pub inside_near : (t u : Targets) (k first end : ℕ)
     → Near t
     → u ≡ inside_of (op_of k) first end t
     → first ≤ most_instructions
     → end ≤ most_instructions
     → Near u
-inside_near t u k first end near e hf he = rw e (by (op_of k))
-  where
-    part : Near (record { brk = t.brk; cont = t.cont; after = end })
-    part = near_of t.brk t.cont end near.brk near.cont he
-
-    by : (o : Op) → Near (inside_of o first end t)
-    by BGNLOOP = near_of end first 0 he hf (omega arith)
-    by SWITCH = near_of end t.cont 0 he near.cont (omega arith)
-    by UIF = part
-    by PLAIN = part
-    by ELSE = part
-    by ENDIF = part
-    by ENDLOOP = part
-    by BRK = part
-    by CONT = part
-    by DEFAULT = part
-    by ENDSWITCH = part
-    by END = part
-    by CASE = part
+inside_near t u k first end near e hf he =
+    rw e
+    (cond_cases Near (is BGNLOOP (op_of k)) _ _ (λ _. record { brk = he; cont = hf; after = omega arith })
+    (λ _.
+    cond_cases Near (is SWITCH (op_of k)) _ _ (λ _. record { brk = he; cont = near.cont; after = omega arith })
+    (λ _. record { brk = near.brk; cont = near.cont; after = he })))
 
 pub jump_near : (o : Op) (t : Targets) → Near t → jump_of o t ≤ most_instructions
 jump_near ELSE t near = near.after
