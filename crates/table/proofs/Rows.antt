@@ -1,6 +1,6 @@
 -- The rows that the readers write one after the other are the rows of the list.
 -- Assumes nothing.
-use mathlib.Core.Path.{◌≡◌, refl, sym, ◌∙◌}
+use mathlib.Core.Path.{◌≡◌, refl, sym}
 use mathlib.Core.Bool.{true, false, cond}
 use mathlib.Core.List.{List, [], ◌∷◌, ◌++◌, append-nil, append_assoc}
 use Prim.Native.Nat.{ℕ, suc, ◌+◌, ◌*◌, ◌<◌, ◌≤◌}
@@ -8,18 +8,18 @@ use native.Mathlib.Omega.{arith}
 use native.Mathlib.Numerals.{add-one}
 use lib.ListN.{length, get_or}
 use lib.Seq.{sets, length-sets}
-use Rattle.blocks.specs.Control.{Op, PLAIN, ELSE, ENDIF, BGNLOOP, ENDLOOP, BRK, CONT, DEFAULT, ENDSWITCH, END, UIF, SWITCH, CASE, is_label, closes, op_of}
+use Rattle.blocks.specs.Control.{Op, PLAIN, ELSE, ENDIF, BGNLOOP, ENDLOOP, BRK, CONT, DEFAULT, ENDSWITCH, END, UIF, SWITCH, CASE, is, is_label, closes, op_of}
 use Rattle.blocks.specs.Lists.{Items, nil, one, uif, loop, switch, size}
 use Rattle.blocks.specs.Nesting.{opens}
 use Rattle.blocks.specs.Run.{most_instructions}
 use Rattle.blocks.specs.declared.Targets.{Targets}
-use Rattle.blocks.specs.Table.{in_uif, in_loop, in_switch, jump_of, first_label, row_of, uif_row, loop_row, switch_row, rows, row_words, words_of}
+use Rattle.blocks.specs.Table.{in_uif, in_loop, in_switch, jump_of, first_label, row_of, row, rows, row_words, words_of}
 use Rattle.blocks.proofs.Agree.{length_rows}
 use Rattle.lists.specs.Lists.{block_of, op_in, list_in, block_in}
 use Rattle.rows.specs.Opened.{past_first, first_row, opened_by, inside_of}
 use Rattle.rows.specs.declared.Opened.{Opened}
 use Rattle.table.specs.Inner.Rows.{words_in, Near}
-use Rattle.lists.proofs.Laid.{Laid, list_laid, laid_label}
+use Rattle.lists.proofs.Laid.{Laid, cond_cases, list_laid, laid_label}
 use Rattle.lists.proofs.Readers.{list_within, past_end, at_none, at_last, at_plain, at_opening, at_loop, at_switch, at_uif, block_some}
 use Rattle.lists.proofs.Tests.{uif_kind, loop_kind, switch_kind, opening_kind, last_no_label}
 use Rattle.table.proofs.Words.{rows_then}
@@ -69,38 +69,18 @@ module _ (kinds : List ℕ) (few : length kinds ≤ most_instructions) where
         within (loop m l rest) w = omega arith
         within (switch m l rest) w = laid_label (op_in kinds) (length kinds) l (suc n) w.2
 
-near_of : (b c a : ℕ)
-    → b ≤ most_instructions
-    → c ≤ most_instructions
-    → a ≤ most_instructions
-    → Near (record { brk = b; cont = c; after = a })
-near_of b c a hb hc ha = record { brk = hb; cont = hc; after = ha }
-
 pub inside_near : (t u : Targets) (k first end : ℕ)
     → Near t
     → u ≡ inside_of (op_of k) first end t
     → first ≤ most_instructions
     → end ≤ most_instructions
     → Near u
-inside_near t u k first end near e hf he = rw e (by (op_of k))
-  where
-    part : Near (record { brk = t.brk; cont = t.cont; after = end })
-    part = near_of t.brk t.cont end near.brk near.cont he
-
-    by : (o : Op) → Near (inside_of o first end t)
-    by BGNLOOP = near_of end first 0 he hf (omega arith)
-    by SWITCH = near_of end t.cont 0 he near.cont (omega arith)
-    by UIF = part
-    by PLAIN = part
-    by ELSE = part
-    by ENDIF = part
-    by ENDLOOP = part
-    by BRK = part
-    by CONT = part
-    by DEFAULT = part
-    by ENDSWITCH = part
-    by END = part
-    by CASE = part
+inside_near t u k first end near e hf he =
+    rw e
+    (cond_cases Near (is BGNLOOP (op_of k)) _ _ (λ _. record { brk = he; cont = hf; after = omega arith })
+    (λ _.
+    cond_cases Near (is SWITCH (op_of k)) _ _ (λ _. record { brk = he; cont = near.cont; after = omega arith })
+    (λ _. record { brk = near.brk; cont = near.cont; after = he })))
 
 pub jump_near : (o : Op) (t : Targets) → Near t → jump_of o t ≤ most_instructions
 jump_near ELSE t near = near.after
@@ -195,87 +175,71 @@ module _ (kinds places : List ℕ) (t : Targets) where
           rw (rows_split n h k)
           (sym (rows_then place n r (rows op t (block_in kinds n)) (rows op t (list_in kinds r)) w _ _ refl (omega (arith, length_rows op t (block_in kinds n))) refl))
 
-  -- `opening`: the block that instruction n opens ends before number e, and over its first row its lists are written.
-  module _ (n e : ℕ) (w w1 : List ℕ) (h : n < length kinds) (ends : e ≡ n + size (block_in kinds n)) where
-    list : Items
+  -- The block that instruction n opens, written over the words w: its row, its first list and its second one.
+  module _ (n : ℕ) (w : List ℕ) (h : n < length kinds) where
+    abbrev list : Items
     list = list_in kinds (suc n)
 
-    open_loop : (u : Targets)
-        → u ≡ record { brk = e; cont = n + 1; after = 0 }
-        → get_or kinds n 0 ≡ 0x83
-        → w1 ≡ sets w (row_words * n) (get_or places n 0 ∷ 0 ∷ 0 ∷ [])
-        → (w2 : List ℕ)
-        → w2 ≡ sets w1 (row_words * (n + 1)) (words_in kinds places u (n + 1) (list_in kinds (n + 1)))
-        → w2 ≡ sets w (row_words * n) (words_in kinds places t n (block_in kinds n))
-    unfolding words_in words_of rows list
-    open_loop u g k wrote w2 inside =
-        let fin : e ≡ suc n + size list = ends ∙ rw (at_loop kinds n h k) (omega arith) in
-        rw (at_loop kinds n h k, append-nil (rows op (in_loop (suc n) (suc n + size list)) list))
-        (rows_then place n (suc n) (loop_row ∷ []) (rows op (in_loop (suc n) (suc n + size list)) list) w w1 w2 wrote (omega arith)
-        (rw (g, fin, add-one n) at inside))
+    abbrev first_part : ℕ → ℕ → Targets → List ℕ
+    first_part j l u = sets (sets w (row_words * n) (place n ∷ j ∷ l ∷ [])) (row_words * suc n) (words_in kinds places u (suc n) list)
 
-    open_switch_is : (l : ℕ)
-        → l ≡ first_label (op_in kinds) (list_in kinds (n + 1))
-        → w1 ≡ sets w (row_words * n) (get_or places n 0 ∷ e ∷ l ∷ [])
-        → (u : Targets) (w2 : List ℕ)
-        → w2 ≡ sets w1 (row_words * (n + 1)) (words_in kinds places u (n + 1) (list_in kinds (n + 1)))
-        → get_or kinds n 0 ≡ 0x91
-        → u ≡ record { brk = e; cont = t.cont; after = 0 }
-        → w2 ≡ sets w (row_words * n) (words_in kinds places t n (block_in kinds n))
-    unfolding words_in words_of rows list
-    open_switch_is l label wrote u w2 inside k g =
-        let fin : e ≡ suc n + size list = ends ∙ rw (at_switch kinds n h k) (omega arith) in
-        rw (at_switch kinds n h k, append-nil (rows op (in_switch (suc n + size list) t) list))
-        (rows_then place n (suc n) (switch_row op n list ∷ []) (rows op (in_switch (suc n + size list) t) list) w w1 w2
-        (rw (fin, label, add-one n) at wrote) (omega arith) (rw (g, fin, add-one n) at inside))
+    row_then : (j l : ℕ) (u : Targets) → first_part j l u ≡ sets w (row_words * n) (words_of place n (row j l ∷ rows op u list))
+    unfolding words_in words_of
+    row_then j l u = rows_then place n (suc n) (row j l ∷ []) (rows op u list) w _ _ refl (omega arith) refl
 
-    -- A UIF's first part ends before number p, and is written.
-    module _ (p : ℕ) (w2 : List ℕ)
-        (k : get_or kinds n 0 ≡ 0x90)
-        (first : p ≡ n + 1 + size (list_in kinds (n + 1)))
-        (wrote : w1 ≡ sets w (row_words * n) (get_or places n 0 ∷ p ∷ 0 ∷ []))
-        (inside : w2 ≡ sets w1 (row_words * (n + 1)) (words_in kinds places (record { brk = t.brk; cont = t.cont; after = e }) (n + 1) (list_in kinds (n + 1))))
-      where
-        part : p ≡ suc n + size list
-        unfolding list
-        part = rw (add-one n) at first
+    -- Of a block l of the kind o: what is written where it has no second part, and where it has one.
+    abbrev first_of : Op → Items → List ℕ
+    first_of o l = first_part (first_row op n l).jump (first_row op n l).label (inside_of o (suc n) (n + size l) t)
 
-        -- With the second part q, whose rows go the same ways.
-        first_rows : (q : Items)
-            → e ≡ n + size (uif n list q nil)
-            → w2 ≡ sets w (row_words * n) (words_of place n (uif_row n list ∷ rows op (in_uif (suc n + size list + size q) t) list))
-        unfolding words_in words_of rows list
-        first_rows q fin =
-            let fin' : e ≡ suc n + size list + size q = omega arith in
-            rows_then place n (suc n) (uif_row n list ∷ []) (rows op (in_uif (suc n + size list + size q) t) list) w w1 w2 (rw part at wrote) (omega arith)
-            (rw (fin', add-one n) at inside)
+    abbrev Once : Op → Items → Type 0
+    Once o l = n + size l ≤ past_first n l → first_of o l ≡ sets w (row_words * n) (words_of place n (rows op t l))
 
-        open_if : e ≤ p → w2 ≡ sets w (row_words * n) (words_in kinds places t n (block_in kinds n))
-        unfolding words_in rows list
-        open_if le =
-            at_uif kinds n h (λ l. e ≡ n + size l → w2 ≡ sets w (row_words * n) (words_of place n (rows op t l))) k
-            (λ q other fin.
-            let none : q ≡ nil = empty q (omega (arith, part)) in
-            rw (none, append-nil (rows op (in_uif (suc n + size list + size nil) t) list)) (first_rows nil (rw none at fin)))
-            ends
+    abbrev Twice : Op → Items → Type 0
+    Twice o l =
+        past_first n l < n + size l
+        → sets (first_of o l) (row_words * past_first n l)
+        (words_in kinds places (inside_of o (suc n) (n + size l) t) (past_first n l) (list_in kinds (past_first n l)))
+        ≡ sets w (row_words * n) (words_of place n (rows op t l))
 
-        open_else_is : p < e
-            → (w3 : List ℕ)
-            → w3 ≡ sets w2 (row_words * p) (words_in kinds places (record { brk = t.brk; cont = t.cont; after = e }) p (list_in kinds p))
-            → w3 ≡ sets w (row_words * n) (words_in kinds places t n (block_in kinds n))
-        unfolding words_in rows list
-        open_else_is lt w3 more =
-            at_uif kinds n h (λ l. e ≡ n + size l → w3 ≡ sets w (row_words * n) (words_of place n (rows op t l))) k
-            (λ q second fin.
-            let v : Targets = in_uif (suc n + size list + size q) t in
-            let fin' : e ≡ suc n + size list + size q = omega arith in
-            let same : list_in kinds p ≡ q = rw part (sym (second (omega (arith, part)))) in
-            rw (append-nil (rows op v q))
-            (rows_then place n p (uif_row n list ∷ rows op v list) (rows op v q) w w2 w3 (first_rows q fin)
-            (omega (arith, part, length_rows op v list)) (rw (same, fin') at more)))
-            ends
+    body_end : n + suc (size list + 0) ≡ suc n + size list
+    body_end = omega arith
 
-  -- By the kind of the instruction, whose block was found.
+    by_loop : get_or kinds n 0 ≡ 0x83 → Once (op n) (block_in kinds n) × Twice (op n) (block_in kinds n)
+    unfolding rows
+    by_loop k =
+        let u : Targets = in_loop (suc n) (suc n + size list) in
+        rw (at_loop kinds n h k, loop_kind (get_or kinds n 0) k)
+        (λ le. rw (body_end, append-nil (rows op u list)) (row_then 0 0 u), λ lt. absurd (omega arith))
+
+    by_switch : get_or kinds n 0 ≡ 0x91 → Once (op n) (block_in kinds n) × Twice (op n) (block_in kinds n)
+    unfolding rows
+    by_switch k =
+        let u : Targets = in_switch (suc n + size list) t in
+        rw (at_switch kinds n h k, switch_kind (get_or kinds n 0) k)
+        (λ le. rw (body_end, append-nil (rows op u list)) (row_then (suc n + size list) (first_label op list) u), λ lt. absurd (omega arith))
+
+    by_uif : get_or kinds n 0 ≡ 0x90 → Once (op n) (block_in kinds n) × Twice (op n) (block_in kinds n)
+    unfolding rows words_in
+    by_uif k =
+        rw (uif_kind (get_or kinds n 0) k)
+        (at_uif kinds n h (λ l. Once UIF l × Twice UIF l) k
+        (λ q second.
+        let p : ℕ = suc n + size list in
+        let u : Targets = in_uif (p + size q) t in
+        let fin : n + suc (size list + (size q + 0)) ≡ p + size q = omega arith in (
+          λ le.
+              let none : q ≡ nil = empty q (omega arith) in
+              rw (fin, none, append-nil (rows op (in_uif (p + 0) t) list)) (row_then p 0 (in_uif (p + 0) t)),
+          λ lt.
+              let same : list_in kinds p ≡ q = sym (second (omega arith)) in
+              rw (fin, append-nil (rows op u q))
+              (rows_then place n p (row p 0 ∷ rows op u list) (rows op u q) w _ _ (row_then p 0 u) (omega (arith, length_rows op u list)) (rw same)),
+        )))
+
+    written_block : opens (op n) ≡ true → Once (op n) (block_in kinds n) × Twice (op n) (block_in kinds n)
+    written_block k = opening_kind (get_or kinds n 0) k _ by_loop by_uif by_switch
+
+  -- The same by what was found of the block.
   module _ (n : ℕ) (o : Opened) (w w1 : List ℕ)
       (h : n < length kinds)
       (opening : opens (op n) ≡ true)
@@ -284,61 +248,15 @@ module _ (kinds places : List ℕ) (t : Targets) where
       (u : Targets) (goes : u ≡ inside_of (op_of (get_or kinds n 0)) (n + 1) o.end t)
       (w2 : List ℕ) (inside : w2 ≡ sets w1 (row_words * (n + 1)) (words_in kinds places u (n + 1) (list_in kinds (n + 1))))
     where
-      ends : o.end ≡ n + size (block_in kinds n)
-      ends = rw found
-
-      by_kinds : (A : Type 0) → (get_or kinds n 0 ≡ 0x83 → A) → (get_or kinds n 0 ≡ 0x90 → A) → (get_or kinds n 0 ≡ 0x91 → A) → A
-      by_kinds A l c s = opening_kind (get_or kinds n 0) opening A l c s
-
-      -- What was found of a UIF.
-      module _ (k : get_or kinds n 0 ≡ 0x90) where
-        uif_second : o.second ≡ suc n + size (list_in kinds (suc n))
-        uif_second = rw found (at_uif kinds n h (λ l. past_first n l ≡ suc n + size (list_in kinds (suc n))) k (λ q other. refl))
-
-        uif_first : o.second ≡ n + 1 + size (list_in kinds (n + 1))
-        uif_first = rw (add-one n) uif_second
-
-        uif_jump : o.jump ≡ o.second
-        uif_jump = rw found (at_uif kinds n h (λ l. (first_row (op_in kinds) n l).jump ≡ past_first n l) k (λ q other. refl))
-
-        uif_label : o.label ≡ 0
-        uif_label = rw found (at_uif kinds n h (λ l. ◌≡◌ {A = ℕ} (first_row (op_in kinds) n l).label 0) k (λ q other. refl))
-
-        uif_wrote : w1 ≡ sets w (row_words * n) (get_or places n 0 ∷ o.second ∷ 0 ∷ [])
-        uif_wrote = rw (uif_jump, uif_label) at wrote
-
-        uif_inside : w2 ≡ sets w1 (row_words * (n + 1)) (words_in kinds places (record { brk = t.brk; cont = t.cont; after = o.end }) (n + 1) (list_in kinds (n + 1)))
-        uif_inside = rw (goes, uif_kind (get_or kinds n 0) k) at inside
-
-      loop_once : get_or kinds n 0 ≡ 0x83 → o.second ≡ o.end
-      loop_once k = rw (found, at_loop kinds n h k) (omega arith)
-
-      switch_once : get_or kinds n 0 ≡ 0x91 → o.second ≡ o.end
-      switch_once k = rw (found, at_switch kinds n h k) (omega arith)
-
       pub opens_once : o.end ≤ o.second → w2 ≡ sets w (row_words * n) (words_in kinds places t n (block_in kinds n))
-      opens_once le =
-          by_kinds (w2 ≡ sets w (row_words * n) (words_in kinds places t n (block_in kinds n)))
-          (λ k.
-          let j : o.jump ≡ 0 = rw (found, at_loop kinds n h k) in
-          let l : o.label ≡ 0 = rw (found, at_loop kinds n h k) in
-          open_loop n o.end w w1 h ends u (rw (loop_kind (get_or kinds n 0) k) at goes) k (rw (j, l) at wrote) w2 inside)
-          (λ k. open_if n o.end w w1 h ends o.second w2 k (uif_first k) (uif_wrote k) (uif_inside k) le)
-          (λ k.
-          let j : o.jump ≡ o.end = rw (found, at_switch kinds n h k) (omega arith) in
-          let l : o.label ≡ first_label (op_in kinds) (list_in kinds (n + 1)) = rw (found, at_switch kinds n h k, add-one n) in
-          open_switch_is n o.end w w1 h ends o.label l (rw j at wrote) u w2 inside k (rw (switch_kind (get_or kinds n 0) k) at goes))
+      unfolding words_in
+      opens_once le = rw (inside, wrote, goes, found, add-one n) ((written_block n w h opening).0 (rw found at le))
 
       pub opens_twice : o.second < o.end
           → (w3 : List ℕ)
           → w3 ≡ sets w2 (row_words * o.second) (words_in kinds places u o.second (list_in kinds o.second))
           → w3 ≡ sets w (row_words * n) (words_in kinds places t n (block_in kinds n))
-      opens_twice lt w3 more =
-          by_kinds (w3 ≡ sets w (row_words * n) (words_in kinds places t n (block_in kinds n)))
-          (λ k. absurd (omega (arith, loop_once k)))
-          (λ k.
-          open_else_is n o.end w w1 h ends o.second w2 k (uif_first k) (uif_wrote k) (uif_inside k) lt w3
-          (rw (goes, uif_kind (get_or kinds n 0) k) at more))
-          (λ k. absurd (omega (arith, switch_once k)))
+      unfolding words_in
+      opens_twice lt w3 more = rw (more, inside, wrote, goes, found, add-one n) ((written_block n w h opening).1 (rw found at lt))
 
 pub ruleset written = (words_end, words_last, words_plain, words_opening, block_some, label_within, jump_near, length-sets)

@@ -32,7 +32,7 @@ fn put_row(work: &mut [u32], n: usize, place: u32, jump: usize, label: usize)
     work[at + 2] = label as u32;
 }
 
-// A program's instructions: the kind and the byte place of each.
+// A program's instructions: the kind and the byte place of each. They stand apart, since `lists` and `rows` look at kinds alone.
 #[derive(Clone, Copy)]
 struct Program<'a> {
     kinds: &'a [u8],
