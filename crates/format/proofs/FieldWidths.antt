@@ -1,29 +1,19 @@
 -- The width of one field: three fields a destination, then four a source, and of each only the second has two bytes.
 -- Assumes nothing.
 use mathlib.Core.Path.{◌≡◌, refl, sym, ap, ◌∙◌}
-use mathlib.Core.Bool.{Bool, true, false, ◌||◌}
+use mathlib.Core.Bool.{Bool, true, false}
 use mathlib.Core.List.{List, ◌++◌}
-use Prim.Native.Nat.{ℕ, zero, suc, ◌+◌, ◌-◌, ◌*◌, ◌%◌, ◌^◌, ◌<◌, ◌≤◌}
+use Prim.Native.Nat.{ℕ, zero, suc, ◌+◌, ◌-◌, ◌*◌, ◌%◌, ◌<◌, ◌≤◌}
 use native.Mathlib.Omega.{arith}
 use native.Mathlib.Nat.{add-mod_left, mod-eq_of_lt, mod-lt, mul-suc, mul-zero}
-use borrow.Author.Tests.{ltb-true, ltb-false, ne_eqb}
-use lib.Dec.{T, eqb, ltb}
-use lib.ListN.{length, get_or, length-append, get_or-replicate, get_or-append}
+use borrow.Author.Tests.{ltb-true, ltb-false}
+use lib.Dec.{ltb}
+use lib.ListN.{length, get_or, length-append, get_or-append}
 use lib.Seq.{get_or-append-add}
-use Rattle.format.specs.Kinds.{Form, declaration, immediate, instruction, unknown, form_of, destinations, sources, times, widths}
+use Rattle.format.specs.Kinds.{instruction, times, widths}
 use Rattle.format.proofs.Ends.{past_end}
-use Rattle.format.proofs.Ranges.{given_at, given_in, in_range}
+use Rattle.format.proofs.Ranges.{given_at, given_in}
 use Rattle.format.proofs.Widths.{of_destination, of_source}
-
--- Declarations and immediates.
-pub past_declaration : (i : ℕ) → (i ≡ 0 → ⊥) → (i ≡ 1 → ⊥) → (i ≡ 2 → ⊥) → 0 ≡ get_or (widths declaration) i 0
-past_declaration i n0 n1 n2 = past_end (widths declaration) i (omega arith)
-
-pub four_words : (i : ℕ) → i < 4 → 4 ≡ get_or (widths immediate) i 0
-four_words i h = sym (get_or-replicate 4 i 4 0 h)
-
-pub past_immediate : (i : ℕ) → 4 ≤ i → 0 ≡ get_or (widths immediate) i 0
-past_immediate i h = past_end (widths immediate) i h
 
 -- A pattern so many times over: its length, and what stands at each place.
 module _ (p : List ℕ) where
@@ -78,35 +68,3 @@ module _ (d s i : ℕ) where
 
     pub past_sources : 4 * s ≤ i - 3 * d → 0 ≡ get_or (widths (instruction d s)) i 0
     past_sources l = past_end (times s of_source) (i - 3 * d) (omega (arith, length_times of_source s)) ∙ sym after_destinations
-
--- A kind: declaration and immediate each by its own number, every other by its operands.
-pub own_width : (f : Form) (own : ℕ) → form_of own ≡ f → (k i w : ℕ) → k ≡ own → w ≡ get_or (widths f) i 0 → w ≡ get_or (widths (form_of k)) i 0
-own_width f own e k i w h g = g ∙ rw (h, e)
-
-abbrev by_operands : Form → Bool
-by_operands declaration = false
-by_operands immediate = false
-by_operands (instruction d s) = true
-by_operands unknown = true
-
-operands_alone : (f : Form) → T (by_operands f) → widths (instruction (destinations f) (sources f)) ≡ widths f
-operands_alone declaration h = absurd h
-operands_alone immediate h = absurd h
-operands_alone (instruction d s) h = refl
-operands_alone unknown h = refl
-
-third : (a b c : Bool) → a ≡ false → b ≡ false → T (a || b || c) → T c
-third a b c ea eb h = rw (ea, eb) at h
-
-module _ (k : ℕ) (n1 : k ≡ 1 → ⊥) (n2 : k ≡ 2 → ⊥) (l : k < 2 ^ 8) where
-  others : T (by_operands (form_of k))
-  others =
-      third (eqb k 1) (eqb k 2) (by_operands (form_of k)) (ne_eqb k 1 n1) (ne_eqb k 2 n2)
-      (in_range (λ k. eqb k 1 || eqb k 2 || by_operands (form_of k)) 0 256 k tt (omega arith) l)
-
-  pub operand_width : (d s i w : ℕ)
-      → d ≡ destinations (form_of k)
-      → s ≡ sources (form_of k)
-      → w ≡ get_or (widths (instruction d s)) i 0
-      → w ≡ get_or (widths (form_of k)) i 0
-  operand_width d s i w ed es ew = ew ∙ rw (ed, es, operands_alone (form_of k) others)

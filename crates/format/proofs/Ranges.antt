@@ -1,7 +1,7 @@
 -- Ranges of kinds: a test that holds of each number from one to another holds of a kind between them, which antt computes.
 -- Assumes nothing.
-use mathlib.Core.Path.{◌≡◌, refl, sym}
-use mathlib.Core.Bool.{Bool, true, false, not, ◌&&◌, ◌||◌}
+use mathlib.Core.Path.{◌≡◌, sym}
+use mathlib.Core.Bool.{Bool, true, false, ◌&&◌, ◌||◌}
 use mathlib.Core.Logic.{⊎_elim}
 use Prim.Native.Nat.{ℕ, zero, suc, ◌+◌, ◌-◌, ◌<◌, ◌≤◌}
 use native.Mathlib.Omega.{arith}
@@ -46,17 +46,3 @@ module _ {A : Type 0} (rule : ℕ → A) (n : A) where
 module _ (rule : ℕ → ℕ) (n : ℕ) where
   pub given_in : (own lo hi : ℕ) → T (every (λ k. eqb k own || eqb (rule k) n) lo (hi - lo)) → (k : ℕ) → (k ≡ own → ⊥) → lo ≤ k → k < hi → n ≡ rule k
   given_in = gives_in rule n eqb eqb→eq
-
-abbrev alike : Bool → Bool → Bool
-alike true b = b
-alike false b = not b
-
-alike_equal : (a b : Bool) → T (alike a b) → a ≡ b
-alike_equal true true h = refl
-alike_equal true false h = absurd h
-alike_equal false true h = absurd h
-alike_equal false false h = refl
-
-module _ (test : ℕ → Bool) (b : Bool) where
-  pub told_in : (own lo hi : ℕ) → T (every (λ k. eqb k own || alike (test k) b) lo (hi - lo)) → (k : ℕ) → (k ≡ own → ⊥) → lo ≤ k → k < hi → b ≡ test k
-  told_in = gives_in test b alike alike_equal

@@ -30,6 +30,7 @@ pub fn body_length(kind: u8) -> u8
 }
 
 // Whether there is such a kind. It is asked of every line of a listing, where the table would be laid out anew each time.
+#[tactic(auto, unfolding(crate::specs::Kinds::length_of))]
 pub fn is_known(kind: u8) -> bool
     ensures { result ≡ is_known kind }
 {
@@ -96,6 +97,7 @@ fn immediate_width(i: u8) -> u8
 }
 
 // "file 1, index 2, mask 1" and "file 1, index 2, swizzle 1 .., modifier 1": only the index has two bytes.
+#[tactic(auto, using(crate::proofs::FieldWidths::destination_index, crate::proofs::FieldWidths::destination_byte, crate::proofs::FieldWidths::source_index, crate::proofs::FieldWidths::source_byte, crate::proofs::FieldWidths::past_sources))]
 fn operand_width(destinations: u8, sources: u8, i: u8) -> u8
     ensures { result ≡ get_or (widths (instruction destinations sources)) i 0 }
 {
