@@ -67,12 +67,11 @@ pub fn innermost_start(b: Blocks) -> u16
 }
 
 // Whether the code of some block is from lo to hi.
+#[tactic(auto, using(crate::proofs::Steps::some_found, crate::proofs::Steps::none_more))]
 pub fn some_is(b: Blocks, lo: u8, hi: u8) -> bool
     ensures { result ≡ some_is lo hi b }
 {
-    let mut n = b.depth;
-    while n != 0 {
-        n -= 1;
+    for n in 0..b.depth {
         let code = code_at(b, n);
         if (lo <= code) & (code <= hi) {
             return true;
