@@ -4,9 +4,12 @@ use Rattle.std.specs.Prelude.{ℕ, List, get_or, drop, Option}
 use Rattle.format.specs.Fields.{destination_at, case_at}
 use Rattle.blocks.specs.Control.{Machine}
 use Rattle.blocks.specs.Run.{Step}
+use Rattle.blocks.specs.Table.{place_in}
 use Rattle.destinations.specs.Destinations.{State}
 use Rattle.effects.specs.Effect.{family_of, effect_of, state, x_of}
+use Rattle.sources.specs.Bank.{env_in}
 use Rattle.sources.specs.Operands.{Env, kind_byte, sources_of}
+use Rattle.machine.specs.declared.step.Code.{Code}
 
 -- The effect of the instruction whose record has these bytes, and of the instruction at place p of the file.
 unfoldable pub record_effect : Env → List ℕ → State → State
@@ -29,6 +32,10 @@ machine_of e file place =
       test = λ n s. test_of e s.registers (drop (place n) file);
       value = λ n. e.immediates (case_at file (place n));
     }
+
+-- The machine that a file, the rows of its table and a bank are.
+abbrev pub machine_in : Code → Machine State
+machine_in code = machine_of (env_in code.bank.now) code.file.now (place_in code.rows.now)
 
 -- What a step leaves, as blocks' `step` has it.
 abbrev pub stepped : Option ℕ → List ℕ → List ℕ → Step State

@@ -1,10 +1,9 @@
 // One step: the instruction's effect and what comes next, by a match on the kind with ranges.
 ghost use Rattle.std.specs.Prelude.{◌≡◌, drop};
-ghost use Rattle.blocks.specs.Table.{place_in, row_in};
+ghost use Rattle.blocks.specs.Table.{row_in};
 ghost use Rattle.blocks.specs.Run.{step as step_of};
 ghost use Rattle.effects.specs.Effect.{state};
-ghost use Rattle.sources.specs.Bank.{env_in};
-ghost use Rattle.machine.specs.Step.{machine_of, stepped};
+ghost use Rattle.machine.specs.Step.{machine_in, stepped};
 
 use crate::reading::read_sources;
 use effects::effect::effect;
@@ -32,7 +31,7 @@ pub struct Code<'a> {
 impl Code<'_> {
     // Carries out instruction n of the prepared rows.
     pub fn step(&self, n: u32, registers: &mut [u32], memory: &mut [u32]) -> Option<usize>
-        ensures { stepped result registers.new memory.new ≡ step_of (machine_of (env_in self.now.bank.now) self.now.file.now (place_in self.now.rows.now)) (row_in self.now.rows.now) n (state registers.old memory.old) }
+        ensures { stepped result registers.new memory.new ≡ step_of (machine_in self.now) (row_in self.now.rows.now) n (state registers.old memory.old) }
     {
         let Code { file, rows, bank } = *self;
         let after = n as usize + 1;
