@@ -4,6 +4,11 @@
 
 mod meanings;
 
+ghost use Rattle.std.specs.Prelude.{◌≡◌, ◌≢◌, ℕ, MatchOption};
+ghost use Rattle.text.specs.declared.output.Filled.{Filled};
+
+use text::output::Filled;
+
 // `refused NUMBER PLACE`
 pub fn refusal_line(rt: &impl Print, number: u8, place: u64)
     ensures { Unit {0} }
@@ -24,4 +29,17 @@ pub fn refusal_lines(rt: &impl Print, number: u8, place: u64)
 {
     refusal_line(rt, number, place);
     meaning_line(rt, number);
+}
+
+// How many bytes were written, or none after the lines of a refusal.
+pub fn wrote_or_refused(rt: &impl Print, answer: Filled) -> Option<usize>
+    ensures { MatchOption result ((n : ℕ) → answer ≢ Filled.Wrote n) (λ n. answer ≡ Filled.Wrote n) }
+{
+    match answer {
+        Filled::Wrote(n) => Some(n),
+        Filled::Refused(number, place) => {
+            refusal_lines(rt, number, place as u64);
+            None
+        }
+    }
 }

@@ -2,20 +2,13 @@
 // called, so that the installed command can go by its first word.
 #![tactic(auto)]
 
-use text::output::Filled;
-
 mod help;
 
 // No listing of a file of 65,536 bytes is longer: a byte comes to at most four, "255" and a space or a line feed.
 fn list(rt: &HostRuntime, program: &[u8]) -> Option<()> {
     let mut listing = [0u8; 262144];
-    match listing::print(program, &mut listing) {
-        Filled::Wrote(n) => files::ok_or_told(rt, b"standard output", rt.write_all(&listing[..n])),
-        Filled::Refused(number, place) => {
-            report::refusal_lines(rt, number, place as u64);
-            None
-        }
-    }
+    let n = report::wrote_or_refused(rt, listing::print(program, &mut listing))?;
+    files::ok_or_told(rt, b"standard output", rt.write_all(&listing[..n]))
 }
 
 // Reads the program, one byte more than a file may have, and lists it. None: a line has said what is wrong.

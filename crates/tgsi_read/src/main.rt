@@ -7,7 +7,6 @@ ghost use Rattle.io.specs.Counts.{IsPrefixLen};
 
 use files::NAME_ROOM;
 use std::io;
-use text::output::Filled;
 
 mod help;
 mod pieces;
@@ -28,13 +27,8 @@ fn save(rt: &HostRuntime, file: &[u8]) -> Option<()> {
 
 fn read(rt: &HostRuntime, text: &[u8]) -> Option<()> {
     let mut file = [0u8; 65536];
-    match listing::read(text, &mut file) {
-        Filled::Wrote(n) => save(rt, &file[..n]),
-        Filled::Refused(number, place) => {
-            report::refusal_lines(rt, number, place as u64);
-            None
-        }
-    }
+    let n = report::wrote_or_refused(rt, listing::read(text, &mut file))?;
+    save(rt, &file[..n])
 }
 
 // Puts an open listing at the start of a buffer. One that is longer than any is refused here and not taken.

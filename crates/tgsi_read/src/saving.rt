@@ -50,13 +50,8 @@ fn can_be_taken(rt: &HostRuntime, name: &str) -> io::Result<()> {
                 Err(io::Error::other("not a regular file"))
             }
         }
-        Err(error) => {
-            if error.kind() == ErrorKind::NotFound {
-                Ok(())
-            } else {
-                Err(error)
-            }
-        }
+        Err(error) if error.kind() == ErrorKind::NotFound => Ok(()),
+        Err(error) => Err(error),
     }
 }
 

@@ -6,7 +6,7 @@ use Rattle.listing.proofs.Within.{print_within}
 use Rattle.tgsi_list.proofs.list.Goals as goal
 
 pub slice_bounds-listing-end : goal.slice_bounds-listing-end
-slice_bounds-listing-end c = print_within _ _ _ _ _ c.print.ensures.printed c.in-Wrote.is
+slice_bounds-listing-end c = print_within _ _ _ _ _ c.print.ensures.printed c.in_ok-n.ensures
 
 pub slice_bounds-write_all-end : goal.slice_bounds-write_all-end
-slice_bounds-write_all-end c = sym (length-take-le _ _ (print_within _ _ _ _ _ c.print.ensures.printed c.in-Wrote.is))
+slice_bounds-write_all-end c = sym (length-take-le _ _ (print_within _ _ _ _ _ c.print.ensures.printed c.in_ok-n.ensures))
