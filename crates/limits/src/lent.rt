@@ -1,4 +1,5 @@
 // A run with so many lent words of each sort.
+use format::refusals::Refused;
 use runner::Outcome;
 
 const BUDGET: u32 = 200000;
@@ -29,7 +30,7 @@ fn first(words: &mut [u32], n: usize) -> &mut [u32] {
 }
 
 // Runs a file over lent words that are all 0.
-pub fn run(file: &[u8], lent: Lent) -> Outcome {
+pub fn run(file: &[u8], lent: Lent) -> Result<Outcome, Refused<u32>> {
     let mut inputs = [0u32; 128];
     let mut constants = [0u32; 4096];
     let mut registers = [0u32; 1156];

@@ -1,19 +1,20 @@
 // The line of a run's outcome, on standard output. No contract can say what is written.
 #![tactic(auto)]
 
+use format::refusals::Refused;
 use runner::Outcome;
 
 // `ended STEPS`, `halted STEPS NEXT` or `refused NUMBER PLACE`
-pub fn outcome_line(rt: &impl Print, outcome: Outcome)
+pub fn outcome_line(rt: &impl Print, outcome: Result<Outcome, Refused<u32>>)
     ensures { Unit {0} }
 {
     match outcome {
-        Outcome::Ended(told) => {
+        Ok(Outcome::Ended(told)) => {
             let _ = println!(rt; "ended {}", told.steps);
         }
-        Outcome::Halted(told, next) => {
+        Ok(Outcome::Halted(told, next)) => {
             let _ = println!(rt; "halted {} {next}", told.steps);
         }
-        Outcome::Refused(number, place) => report::refusal_line(rt, number, place as u64),
+        Err(Refused { refusal, place }) => report::refusal_line(rt, refusal, place as u64),
     }
 }

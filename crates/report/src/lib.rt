@@ -2,43 +2,40 @@
 // place for it.
 #![tactic(auto)]
 
-mod meanings;
+ghost use Rattle.std.specs.Prelude.{◌≡◌, ◌≢◌, ℕ, Result, Ok, MatchOption};
 
-ghost use Rattle.std.specs.Prelude.{◌≡◌, ◌≢◌, ℕ, MatchOption};
-ghost use Rattle.text.specs.declared.output.Filled.{Filled};
-
-use text::output::Filled;
+use format::refusals::{Refusal, Refused};
 
 // `refused NUMBER PLACE`
-pub fn refusal_line(rt: &impl Print, number: u8, place: u64)
+pub fn refusal_line(rt: &impl Print, refusal: Refusal, place: u64)
     ensures { Unit {0} }
 {
-    let _ = println!(rt; "refused {number} {place}");
+    let _ = println!(rt; "refused {} {place}", refusal.number());
 }
 
 // What a refusal says.
-pub fn meaning_line(rt: &impl Print, number: u8)
+pub fn meaning_line(rt: &impl Print, refusal: Refusal)
     ensures { Unit {0} }
 {
-    let _ = rt.println(meanings::refusal(number));
+    let _ = println!(rt; "{refusal}");
 }
 
 // Both lines.
-pub fn refusal_lines(rt: &impl Print, number: u8, place: u64)
+pub fn refusal_lines(rt: &impl Print, refusal: Refusal, place: u64)
     ensures { Unit {0} }
 {
-    refusal_line(rt, number, place);
-    meaning_line(rt, number);
+    refusal_line(rt, refusal, place);
+    meaning_line(rt, refusal);
 }
 
 // How many bytes were written, or none after the lines of a refusal.
-pub fn wrote_or_refused(rt: &impl Print, answer: Filled) -> Option<usize>
-    ensures { MatchOption result ((n : ℕ) → answer ≢ Filled.Wrote n) (λ n. answer ≡ Filled.Wrote n) }
+pub fn wrote_or_refused(rt: &impl Print, answer: Result<usize, Refused<usize>>) -> Option<usize>
+    ensures { MatchOption result ((n : ℕ) → answer ≢ Ok n) (λ n. answer ≡ Ok n) }
 {
     match answer {
-        Filled::Wrote(n) => Some(n),
-        Filled::Refused(number, place) => {
-            refusal_lines(rt, number, place as u64);
+        Ok(n) => Some(n),
+        Err(Refused { refusal, place }) => {
+            refusal_lines(rt, refusal, place as u64);
             None
         }
     }

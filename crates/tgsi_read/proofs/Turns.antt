@@ -14,7 +14,8 @@ use Rattle.listing.specs.declared.pieces.Piece.{Piece}
 use Rattle.listing.specs.Calls.{read_of}
 use Rattle.listing.proofs.InPieces.{malformed_within, lines_within, Reached, reached_next, told_malformed, told_unended, told_too_long, nothing_by}
 use Rattle.tgsi_read.specs.Inner.Turns.{turn_of}
-use Rattle.tgsi_read.specs.declared.pieces.Due.{Due}
+use Rattle.format.specs.Refusals.{number_of}
+use Rattle.format.specs.declared.refusals.Refused.{Refused}
 
 module _ (text : List ℕ) (count : ℕ) (within : count ≤ length text) where
   pub piece_counted : count ≡ length (take count text)
@@ -41,7 +42,7 @@ module _ (text : List ℕ) (count : ℕ) (within : count ≤ length text) where
 
 -- ---- A turn and the whole listing: the piece is reached, and r is the answer
 
-module _ (text piece rest : List ℕ) (place : ℕ) (so : Reached text piece rest place) (r : Result ℕ Due) (e : r ≡ turn_of place (piece_of piece)) where
+module _ (text piece rest : List ℕ) (place : ℕ) (so : Reached text piece rest place) (r : Result ℕ (Refused ℕ)) (e : r ≡ turn_of place (piece_of piece)) where
   -- Bytes are passed: with what is kept of the piece, and more, the listing is reached as many bytes further.
   pub turn_next : (n : ℕ) → r ≡ Ok n → (kept more left : List ℕ) → kept ≡ drop n piece → rest ≡ more ++ left
       → Reached text (kept ++ more) left (place + n)
@@ -56,13 +57,13 @@ module _ (text piece rest : List ℕ) (place : ℕ) (so : Reached text piece res
 
   -- A refusal is due: it is what reading the whole listing answers, if the piece fills its buffer or the listing ends with it.
   module _ (enough : (rest ≡ []) ⊎ (511 < length piece)) (long : 262144 < length text) (output : List ℕ) where
-    pub turn_told : (due : Due) → r ≡ Err due → read_of text output ≡ written (refusal due.number due.place) output
+    pub turn_told : (due : Refused ℕ) → r ≡ Err due → read_of text output ≡ written (refusal (number_of due.refusal) due.place) output
     turn_told due refused = by (piece_of piece) refl (sym e ∙ refused) where
-      at_due : (t : Result ℕ Due) (d : Due) → t ≡ Err d → t ≡ Err due → read_of text output ≡ written (refusal d.number d.place) output
-          → read_of text output ≡ written (refusal due.number due.place) output
-      at_due t d is same told = let those : d ≡ due = cc in told ∙ ap (λ (x : Due). written (refusal x.number x.place) output) those
+      at_due : (t : Result ℕ (Refused ℕ)) (d : Refused ℕ) → t ≡ Err d → t ≡ Err due → read_of text output ≡ written (refusal (number_of d.refusal) d.place) output
+          → read_of text output ≡ written (refusal (number_of due.refusal) due.place) output
+      at_due t d is same told = let those : d ≡ due = cc in told ∙ ap (λ (x : Refused ℕ). written (refusal (number_of x.refusal) x.place) output) those
 
-      by : (f : Piece) → piece_of piece ≡ f → turn_of place f ≡ Err due → read_of text output ≡ written (refusal due.number due.place) output
+      by : (f : Piece) → piece_of piece ≡ f → turn_of place f ≡ Err due → read_of text output ≡ written (refusal (number_of due.refusal) due.place) output
       by (Piece.Malformed at) is same = at_due _ _ refl same (told_malformed text piece rest place so at is output)
       by Piece.Unended is same = at_due _ _ refl same (told_unended text piece rest place so is enough output)
       by (Piece.Lines n) is clash = absurd cc

@@ -6,7 +6,7 @@ ghost use Rattle.std.specs.Prelude.{◌≡◌, ◌≤◌, ◌+◌, ◌-◌, IfOk
 ghost use Rattle.listing.specs.Pieces.{piece_of};
 ghost use Rattle.tgsi_read.specs.Inner.Turns.{turn_of};
 
-use format::refusals::{MALFORMED_LINE, TOO_LONG};
+use format::refusals::{Refusal, Refused};
 use listing::Piece;
 use std::io;
 use text::output::move_to_front;
@@ -15,32 +15,25 @@ use text::output::move_to_front;
 // does.
 const TURNS: u64 = 36000000000000;
 
-// The refusal that is due of a listing.
-#[derive(Clone, Copy)]
-struct Due {
-    number: u8,
-    place: u64,
-}
-
 // The first bytes of a buffer, so many, are a piece that starts at a place of the listing. Reads the lines that end in it, moves what
 // follows them to the front, and answers how many bytes are passed.
-fn take_turn(text: &mut [u8], count: usize, place: u64) -> Result<usize, Due>
+fn take_turn(text: &mut [u8], count: usize, place: u64) -> Result<usize, Refused<u64>>
     requires { (count ≤ length text.old) × (place + count ≤ 18446744073709551615) }
     ensures due { result ≡ turn_of place (piece_of (take count text.old)) }
     ensures kept { MatchResult result (λ n. take (count - n) text.new ≡ drop n (take count text.old)) (λ _. text.new ≡ text.old) }
     ensures within { IfOk result (λ n. n ≤ count) }
 {
     match listing::read_piece(&text[..count]) {
-        Piece::Malformed(at) => Err(Due {
-            number: MALFORMED_LINE,
+        Piece::Malformed(at) => Err(Refused {
+            refusal: Refusal::MalformedLine,
             place: place + at as u64,
         }),
-        Piece::Nothing => Err(Due {
-            number: TOO_LONG,
+        Piece::Nothing => Err(Refused {
+            refusal: Refusal::TooLong,
             place: 0,
         }),
-        Piece::Unended => Err(Due {
-            number: MALFORMED_LINE,
+        Piece::Unended => Err(Refused {
+            refusal: Refusal::MalformedLine,
             place,
         }),
         Piece::Lines(n) => {
@@ -59,7 +52,7 @@ pub fn refuse<F: io::Read>(rt: &HostRuntime, file: &mut F, path: &[u8], text: &m
     for _ in 0..TURNS {
         let passed = match take_turn(text, count, place) {
             Ok(passed) => passed,
-            Err(due) => return report::refusal_lines(rt, due.number, due.place),
+            Err(due) => return report::refusal_lines(rt, due.refusal, due.place),
         };
         place += passed as u64;
         count -= passed;

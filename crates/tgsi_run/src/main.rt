@@ -2,6 +2,7 @@
 // Standard output has the outcome alone, whatever the files are called, so that the installed command can go by its first word.
 #![tactic(auto)]
 
+use format::refusals::Refused;
 use runner::Outcome;
 
 mod complaints;
@@ -13,17 +14,22 @@ mod word_files;
 const BUDGET: u32 = 200000;
 
 // The outcome, what a refusal or a halt means, and the outputs of a run.
-fn tell(rt: &impl Print, outcome: Outcome, program: &[u8], registers: &[u32]) {
+fn tell(
+    rt: &impl Print,
+    outcome: Result<Outcome, Refused<u32>>,
+    program: &[u8],
+    registers: &[u32],
+) {
     outcomes::outcome_line(rt, outcome);
     match outcome {
-        Outcome::Ended(_) => outputs::lines(rt, program, registers),
-        Outcome::Halted(_, next) => {
+        Ok(Outcome::Ended(_)) => outputs::lines(rt, program, registers),
+        Ok(Outcome::Halted(_, next)) => {
             let _ = println!(rt;
                 "the budget of 200,000 steps is spent before END; instruction {next}, counted from 0, comes next"
             );
             outputs::lines(rt, program, registers);
         }
-        Outcome::Refused(number, _) => report::meaning_line(rt, number),
+        Err(refused) => report::meaning_line(rt, refused.refusal),
     }
 }
 

@@ -18,7 +18,7 @@ fn declared_lines(rt: &impl Print, declared: Declared, registers: &[u32]) {
 
 pub fn lines(rt: &impl Print, program: &[u8], registers: &[u32]) {
     let mut immediates = [0u32; 1024];
-    let checked = checker::examine(program, &mut immediates);
-    let kept = checked.program;
-    declared_lines(rt, kept.declared, registers);
+    if let Ok(kept) = checker::examine(program, &mut immediates) {
+        declared_lines(rt, kept.declared, registers);
+    }
 }
