@@ -3,7 +3,7 @@
 #![tactic(auto)]
 
 ghost use Rattle.std.specs.Prelude.{◌≡◌, ◌<◌, set};
-ghost use Rattle.tree.specs.Search.{slot_of, place_in, is_here, hung};
+ghost use Rattle.tree.specs.Search.{slot_of, most_nodes, place_in, is_here, hung};
 
 // Where the search for a word ends.
 #[derive(Clone, Copy)]
@@ -20,7 +20,7 @@ const MOST_NODES: u32 = 33;
 
 // The link of a node below which x lies. At depth 32 that goes by the bit above x.
 fn slot_of(node: u16, depth: u32, x: u32) -> usize
-    requires { depth < 33 }
+    requires { depth < most_nodes }
     ensures { result ≡ slot_of node depth x }
 {
     2 * node as usize + ((x as u64 >> depth) % 2) as usize
