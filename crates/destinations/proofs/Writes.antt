@@ -1,17 +1,15 @@
 -- Results written to the components of a mask.
 -- Assumes nothing.
-use Rattle.destinations.specs.Destinations.{first_word, if_masked, masked}
-use Rattle.words.specs.Word.{bit, is_set}
-use Prim.Native.Nat.{◌*◌, ◌+◌, ◌<◌, ◌≤◌, ◌%◌, suc, zero, ℕ}
+use Rattle.destinations.specs.Destinations.{if_masked, masked}
+use Rattle.words.specs.Word.{is_set}
+use Prim.Native.Nat.{◌+◌, ◌<◌, ◌≤◌, ◌%◌, suc, zero, ℕ}
 use mathlib.Core.Path.{◌∙◌, ◌≡◌, ap, sym}
-use mathlib.Core.Bool.{Bool, false, true}
+use mathlib.Core.Bool.{false}
 use mathlib.Core.List.{List}
 use native.Mathlib.Nat.{div-eq_of_lt, lt_of_lt_of_le}
-use borrow.Author.Tests.{ne_eqb}
 use lib.Dec.{eqb}
 use lib.Pow.{pow_mono}
 use native.Mathlib.Numerals.{add-one}
-use Rattle.format.specs.declared.fields.Destination.{Destination}
 
 -- A mask is a byte: it has no component from 8 on.
 pub no_component : (mask i : ℕ) → mask < 256 → 8 ≤ i → false ≡ is_set mask i

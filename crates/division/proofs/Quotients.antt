@@ -1,7 +1,7 @@
 -- Signed quotients and remainders are those of the magnitudes with a sign, over the width.
 use Rattle.words.specs.Word.{iabs, neg, sdiv, signed, srem, word}
 use Rattle.words.proofs.Signed.{abs_lt, abs_pos, iabs_is, signed_high, signed_low, word_minus, word_pos}
-use Prim.Native.Nat.{◌%◌, ◌+◌, ◌-◌, ◌/◌, ◌<◌, ◌^◌, ◌≤◌, zero, ℕ}
+use Prim.Native.Nat.{◌%◌, ◌+◌, ◌-◌, ◌/◌, ◌<◌, ◌^◌, zero, ℕ}
 use mathlib.Core.Path.{◌∙◌, ◌≡◌, ap, sym}
 use mathlib.Core.Bool.{Bool, beq, false, true}
 use native.Mathlib.Omega.{arith}

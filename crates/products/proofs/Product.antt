@@ -2,15 +2,14 @@
 use Rattle.words.specs.Word.{add, iabs, imulhi, mul, neg, signed, umad, word}
 use Rattle.words.proofs.Signed.{abs_lt, iabs_is, signed_high, signed_low, word_negsuc, word_pos}
 use Rattle.words.proofs.Numbers.{complement_shr}
-use Prim.Native.Nat.{◌%◌, ◌*◌, ◌+◌, ◌-◌, ◌/◌, ◌<◌, ◌^◌, ◌≤◌, suc, zero, ℕ}
-use mathlib.Core.Path.{◌∙◌, ◌≡◌, ap, ap₂, sym}
+use Prim.Native.Nat.{◌%◌, ◌*◌, ◌+◌, ◌-◌, ◌/◌, ◌<◌, ◌^◌, suc, zero, ℕ}
+use mathlib.Core.Path.{◌∙◌, ◌≡◌, ap, sym}
 use native.Mathlib.Omega.{arith}
-use native.Mathlib.Nat.{add_assoc, add_comm, add_left_comm, add-mod, add-mul, div-add-mod', le_of_lt, lt_of_le_of_lt, mod-add-mod, mod-eq_of_lt, mod_self, mul-add, mul-add-div_right, mul-add-mod_self_right, mul_assoc, mul_comm, mul-le-mul_left, mul_left_comm, mul-lt-mul_of_pos_right, sub-zero, zero-div}
+use native.Mathlib.Nat.{le_of_lt, lt_of_le_of_lt, mod-add-mod, mod-eq_of_lt, mod_self, mul-le-mul_left, mul-lt-mul_of_pos_right, sub-zero, zero-div}
 use mathlib.Core.Bool.{Bool, beq, false, true}
 use borrow.Author.Tests.{leb-false, leb-true}
 use lib.Dec.{leb}
 use lib.Pow.{pow-add, pow_pos, shr_lt}
-use lib.Arith.{mod-mul}
 use lib.IntN.{nat_abs, neg_ℤ, pos}
 use lib.Signed.{shr_z}
 
