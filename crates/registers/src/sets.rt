@@ -111,10 +111,9 @@ pub fn is_file_declared(d: Declared, file: u8) -> bool
 pub fn declaration_allowed(d: Declaration) -> bool
     ensures { result ≡ declaration_rule d }
 {
-    let file = d.file;
-    (((CONST <= file) & (file <= ADDR)) | (file == MEM))
-        & (d.first <= d.last)
-        & ((d.last as usize) < registers_of(file))
+    matches!(d.file, CONST..=ADDR | MEM)
+        && d.first <= d.last
+        && (d.last as usize) < registers_of(d.file)
 }
 
 // Whether a declaration names a register that is declared.

@@ -1,10 +1,7 @@
--- The destination, if there is one, and then the sources.
+-- Both closures compute the rules.
 use Rattle.std.proofs.Common.{rules}
-use Rattle.registers.specs.Rules.{source_rule}
-use Rattle.operands.proofs.Sources.{all_operands_is}
+use Rattle.registers.specs.Rules.{destination_rule, source_rule}
 use Rattle.operands.proofs.rules_kept.Goals as goal
 
 pub returns : goal.returns
-returns c =
-    let sources = c.all_sources.ensures (source_rule c.args.kind) (λ s r called. search rules) in
-    search (rules, all_operands_is, sources)
+returns c = c.all_operands.ensures (destination_rule c.args.kind) (source_rule c.args.kind) (λ d r called. search rules) (λ s r called. search rules)
