@@ -7,7 +7,7 @@ use Rattle.text.proofs.Lines.{split_some}
 use mathlib.Core.Path.{◌≡◌, refl, sym, ap, ◌∙◌}
 use mathlib.Core.Bool.{Bool, true, false, cond}
 use mathlib.Core.List.{List, [], ◌++◌, append-nil}
-use Prim.Native.Nat.{ℕ, ◌+◌, ◌-◌, ◌^◌, ◌≤◌, ◌<◌}
+use Prim.Native.Nat.{ℕ, ◌+◌, ◌-◌, ◌≤◌, ◌<◌}
 use native.Mathlib.Omega.{arith}
 use borrow.Author.Tests.{ltb-true, ltb-false, lt-ltb, le-ltb}
 use lib.Dec.{ltb}
@@ -31,12 +31,10 @@ counted_on_is count more h = rw (lt-ltb longest count h)
 pub counted_more : (count more : ℕ) → count ≤ longest → count + more ≡ counted_on count more
 counted_more count more h = rw (le-ltb longest count h)
 
-module _ (l zeros bytes : List ℕ) (size : ℕ) (e : bytes ≡ sets zeros 0 (line_record l)) (es : size ≡ length (line_record l)) (hs : size ≤ 128) (room : length zeros ≡ 128) where
+module _ (l zeros bytes : List ℕ) (size : ℕ)
+    (e : bytes ≡ sets zeros 0 (line_record l)) (es : size ≡ length (line_record l)) (hs : size ≤ 128) (room : length zeros ≡ 128) where
   record_held : take size bytes ≡ line_record l
   record_held = front zeros bytes (line_record l) size e es (omega (arith, es, hs, room))
-
-  pub record_counted : size ≡ length (take size bytes)
-  record_counted = es ∙ ap length (sym record_held)
 
   module _ (b : Bool) (eb : b ≡ is_line_of (take size bytes) l) where
     line_is : b ≡ well_formed l
@@ -131,15 +129,6 @@ module _ (text array : List ℕ) (at count : ℕ) (s : TextLeft text array at co
 
     line_fits : at + length l + 1 ≤ length text
     line_fits = omega (arith, shorter, length_rest)
-
-    pub line_fits_sum : length text < 2 ^ 64 → at + length l < 2 ^ 64
-    line_fits_sum h = omega (arith, line_fits, h)
-
-    pub line_fits_next : length text < 2 ^ 64 → at + length l + 1 < 2 ^ 64
-    line_fits_next h = omega (arith, line_fits, h)
-
-    pub text_falls : length text - (at + length l + 1) < length text - at
-    text_falls = omega (arith, line_fits)
 
     line_first : read_lines at (split line_feed rest)
         ≡ cond (well_formed l) (joined (line_record l) (read_lines (at + length l + 1) (split line_feed (drop (at + length l + 1) text)))) (malformed at)

@@ -53,6 +53,7 @@ pub fn read(text: &[u8], output: &mut [u8]) -> Result<usize, Refused<usize>>
 }
 
 // Delivers the file of this length that stands at the start of an array, if it is not too long.
+#[tactic(auto, using(crate::proofs::Delivering::program_long))]
 fn deliver_program(file: &[u8], length: usize, output: &mut [u8]) -> Result<usize, Refused<usize>>
     requires { size file.now ≡ longest }
     ensures { (program : List ℕ) → Holds program length file.now → written (answered result) output.new ≡ delivered_if (check_of program) program output.old }

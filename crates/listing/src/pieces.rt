@@ -19,6 +19,7 @@ pub enum Piece {
 }
 
 // Reads the lines that end in a piece.
+#[tactic(auto, using(crate::proofs::Fronts::no_bytes, crate::proofs::Fronts::lines_counted), unfolding(crate::specs::Pieces::piece_of))]
 pub fn read_piece(piece: &[u8]) -> Piece
     ensures { result ≡ piece_of piece.now }
 {

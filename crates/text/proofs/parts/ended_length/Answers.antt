@@ -6,7 +6,8 @@ use Rattle.text.proofs.parts.ended_length.Goals as goal
 
 pub returns-in-Some : goal.returns-in-Some
 returns-in-Some c =
-    let after : (k : ℕ) → c.in-Some.last < k → k < length c.args.bytes.now → get_or c.args.bytes.now k 0 ≡ c.args.separator → ⊥ = λ k a b. search (rules, tests) in
+    let bytes = c.args.bytes.now in
+    let after : (k : ℕ) → c.in-Some.last < k → k < length bytes → get_or bytes k 0 ≡ c.args.separator → ⊥ = λ k a b. search (rules, tests) in
     ended_last c.args.separator c.args.bytes.now c.in-Some.last (search rules) (search (rules, tests)) after
 
 pub returns-in-None : goal.returns-in-None
