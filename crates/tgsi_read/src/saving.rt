@@ -1,6 +1,6 @@
 // Writing a file so that its name stands for all of it or for what it stood for before: the bytes go to a new file beside it, which then
 // takes its name. A link or a device would lose its place by that, so neither is taken.
-ghost use Rattle.std.specs.Prelude.{◌≡◌, ◌+◌, ◌≤◌, ◌++◌, length, take, codes};
+ghost use Rattle.std.specs.Prelude.{◌≡◌, ◌≤◌, ◌++◌, length, codes};
 
 use files::NAME_ROOM;
 use std::fs::{File, OpenOptions};
@@ -12,10 +12,7 @@ use text::output::put_all;
 const ROOM: usize = NAME_ROOM + 5;
 
 fn is_link(rt: &HostRuntime, name: &str) -> bool {
-    match fs::symlink_metadata(rt, name) {
-        Ok(metadata) => metadata.is_symlink(),
-        Err(_) => false,
-    }
+    fs::symlink_metadata(rt, name).is_ok_and(|metadata| metadata.is_symlink())
 }
 
 // A pipe or a terminal has no position, and a device such as /dev/null nothing to put on a disk. Neither call changes the file, its time
@@ -78,14 +75,15 @@ fn replace(rt: &HostRuntime, name: &str, part: &str, bytes: &[u8]) -> Option<()>
     ok_or_removed(rt, name, part, fs::rename(rt, part, name))
 }
 
-// A name with `.part` after it, and zeros.
-fn part_of(name: &str) -> [u8; ROOM]
-    ensures { length name.now ≤ 4096 → take (length name.now + 5) result ≡ name.now ++ codes ".part" }
+// A name with `.part` after it, as it stands in a buffer then.
+fn part_of<'a>(name: &str, room: &'a mut [u8; ROOM]) -> &'a str
+    requires { length name.now ≤ 4096 }
+    ensures { result.now ≡ name.now ++ codes ".part" }
 {
-    let mut part = [0u8; ROOM];
-    put_all(&mut part, 0, name.as_bytes());
-    put_all(&mut part, name.len(), b".part");
-    part
+    put_all(room, 0, name.as_bytes());
+    put_all(room, name.len(), b".part");
+    let end = name.len() + 5;
+    str::from_utf8(&room[..end]).unwrap()
 }
 
 // Writes bytes to the file that an argument names. Where that does not go well, a line says why, and what the name stood for is as it was.
@@ -98,8 +96,7 @@ pub fn save(rt: &HostRuntime, argument: usize, bytes: &[u8]) -> Option<()> {
         return None;
     }
     files::ok_or_told(rt, name.as_bytes(), can_be_taken(rt, name))?;
-    let bytes_of_part = part_of(name);
-    let end = name.len() + 5;
-    let part = str::from_utf8(&bytes_of_part[..end]).unwrap();
+    let mut room = [0u8; ROOM];
+    let part = part_of(name, &mut room);
     replace(rt, name, part, bytes)
 }
