@@ -66,6 +66,8 @@ module _ (s : State) (q : Program) (words values links : List ℕ) (stands : Sta
         trees = stands.trees;
       }
 
+pub ruleset immediate_steps = (stands_immediate, immediates_counted)
+
 -- Nothing is open, and nothing has been counted.
 module _ (p : Program) (b : Blocks) (none : b ≡ none_open) (words values : List ℕ) where
   pub nothing_seen : program_seen p words [] ≡ nothing → program_seen p words (blocks_of b values) ≡ nothing

@@ -31,8 +31,8 @@ const MOST_IMMEDIATES: u32 = 256;
 #[tactic(auto, unfolding(crate::specs::Findings::declaration_finding, crate::specs::Inner::Held::seen), using(crate::proofs::Taking::stands_declaration))]
 fn declaration(s: State, file: &[u8], at: usize, next: usize) -> Result<State, Refusal>
     requires { Sound s × (at ≤ 65536) × (next ≤ 65536) × (next ≡ at + size_at file.now at) }
-    ensures found { (words : List ℕ) (values : List ℕ) → finding_of result words values ≡ declaration_finding (seen s words values) file.now at }
-    ensures stands { (words : List ℕ) (values : List ℕ) (links : List ℕ) → Stands s words values links → IfOk result (λ t. Stands t words values links) }
+    ensures found { (words values : List ℕ) → finding_of result words values ≡ declaration_finding (seen s words values) file.now at }
+    ensures stands { (words values links : List ℕ) → Stands s words values links → IfOk result (λ t. Stands t words values links) }
 {
     let p = s.program;
     if 0 < p.instructions {
@@ -53,7 +53,7 @@ fn declaration(s: State, file: &[u8], at: usize, next: usize) -> Result<State, R
 }
 
 // The state after the immediate at a place, which is followed by the place `next`.
-#[tactic(auto, unfolding(crate::specs::Findings::immediate_finding, crate::specs::Inner::Held::seen), using(crate::proofs::Taking::stands_immediate, crate::proofs::Taking::immediates_counted))]
+#[tactic(auto, unfolding(crate::specs::Findings::immediate_finding, crate::specs::Inner::Held::seen), using(crate::proofs::Taking::immediate_steps))]
 fn immediate(
     s: State,
     file: &[u8],
@@ -63,7 +63,7 @@ fn immediate(
 ) -> Result<State, Refusal>
     requires { Sound s × (at ≤ 65536) × (next ≤ 65536) × (next ≡ at + size_at file.now at) × Padded s.program.immediates words.old }
     ensures found { (values : List ℕ) → finding_of result words.new values ≡ immediate_finding (seen s words.old values) file.now at }
-    ensures stands { (values : List ℕ) (links : List ℕ) → Stands s words.old values links → IfOk result (λ t. Stands t words.new values links) }
+    ensures stands { (values links : List ℕ) → Stands s words.old values links → IfOk result (λ t. Stands t words.new values links) }
 {
     let p = s.program;
     if 0 < p.instructions {
@@ -178,8 +178,8 @@ fn record(
 // Nothing has been seen.
 #[tactic(auto, unfolding(crate::specs::Inner::Held::seen), using(crate::proofs::Taking::nothing_seen, crate::proofs::Taking::nothing_stands))]
 fn started() -> State
-    ensures nothing { (words : List ℕ) (values : List ℕ) → seen result words values ≡ nothing }
-    ensures stands { (words : List ℕ) (values : List ℕ) (links : List ℕ) → Padded 0 words → length values ≡ 1024 → length links ≡ 2048 → Stands result words values links }
+    ensures nothing { (words values : List ℕ) → seen result words values ≡ nothing }
+    ensures stands { (words values links : List ℕ) → Padded 0 words → length values ≡ 1024 → length links ≡ 2048 → Stands result words values links }
 {
     State {
         program: kept::unseen(),

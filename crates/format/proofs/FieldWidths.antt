@@ -68,3 +68,6 @@ module _ (d s i : ℕ) where
 
     pub past_sources : 4 * s ≤ i - 3 * d → 0 ≡ get_or (widths (instruction d s)) i 0
     past_sources l = past_end (times s of_source) (i - 3 * d) (omega (arith, length_times of_source s)) ∙ sym after_destinations
+
+-- The width of a field of an operand, by where it stands.
+pub ruleset operand_fields = (destination_index, destination_byte, source_index, source_byte, past_sources)

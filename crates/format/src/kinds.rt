@@ -97,7 +97,7 @@ fn immediate_width(i: u8) -> u8
 }
 
 // "file 1, index 2, mask 1" and "file 1, index 2, swizzle 1 .., modifier 1": only the index has two bytes.
-#[tactic(auto, using(crate::proofs::FieldWidths::destination_index, crate::proofs::FieldWidths::destination_byte, crate::proofs::FieldWidths::source_index, crate::proofs::FieldWidths::source_byte, crate::proofs::FieldWidths::past_sources))]
+#[tactic(auto, using(crate::proofs::FieldWidths::operand_fields))]
 fn operand_width(destinations: u8, sources: u8, i: u8) -> u8
     ensures { result ≡ get_or (widths (instruction destinations sources)) i 0 }
 {
