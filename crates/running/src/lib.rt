@@ -19,7 +19,6 @@ use preparation::write_table;
 use sources::bank::BANK_WORDS;
 
 // Prepares a program, clears the registers and carries it out.
-#[tactic(auto, using(crate::proofs::Cleared::came_cleared))]
 pub fn carry_out_program(
     file: &[u8],
     program: Program,
