@@ -81,7 +81,7 @@ fn part_of<'a>(name: &str, room: &'a mut [u8; ROOM]) -> &'a str
     ensures { result.now ≡ name.now ++ codes ".part" }
 {
     put_all(room, 0, name.as_bytes());
-    put_all(room, name.len(), b".part");
+    put_all(room, name.len(), ".part".as_bytes());
     let end = name.len() + 5;
     str::from_utf8(&room[..end]).unwrap()
 }
