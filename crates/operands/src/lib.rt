@@ -6,7 +6,8 @@ ghost use Rattle.std.specs.Prelude.{◌≡◌, ◌+◌, Bool};
 ghost use Rattle.format.specs.declared.fields.Destination.{Destination};
 ghost use Rattle.format.specs.declared.fields.Source.{Source};
 ghost use Rattle.format.specs.Kinds.{sources, form_of, first_source};
-ghost use Rattle.registers.specs.Rules.{may_negate, memory_kind, destination_file, mask_rule, destination_rule, source_rule, all_sources, all_operands, operand_rules};
+ghost use Rattle.registers.specs.Rules.{may_negate, memory_kind, destination_file, mask_rule, destination_rule, source_rule};
+ghost use Rattle.registers.specs.Rules.{all_sources, all_operands, operand_rules};
 ghost use Rattle.registers.specs.Sets.{is_in};
 ghost use Rattle.registers.specs.Found.{destination_found, source_found, operands_found};
 
