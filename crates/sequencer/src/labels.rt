@@ -33,6 +33,7 @@ pub fn after_label(
     let mut m = label;
     let mut other = jump;
     for _ in 0..MOST_INSTRUCTIONS {
+        // A row has 0 for no label.
         if m == 0 {
             return other;
         }
