@@ -14,7 +14,7 @@ ghost use Rattle.listing.specs.Calls.{print_of, read_of};
 ghost use Rattle.answers.specs.Words.{told_words, steps_in, after_preparing, after_run, after_filling, preparation_in_words, result_in_words, written_in_words, part_of};
 ghost use Rattle.ropebonnet.specs.Version.{version};
 
-use answers::{Answer, Part, checked, filled, located, prepared, ran};
+use answers::{Answer, Part};
 use blocks::ROW_WORDS;
 use needs::{Needs, needs_of};
 
@@ -25,7 +25,7 @@ const VERSION: u32 = 10100;
 pub extern "C" fn ropebonnet_check(file: &[u8]) -> Answer
     ensures { result ≡ told_words (told_of (check_of file.now)) }
 {
-    checked(runner::check(file))
+    Answer::from(runner::check(file))
 }
 
 // Checks a file and puts its table into the working words.
@@ -33,7 +33,7 @@ pub extern "C" fn ropebonnet_check(file: &[u8]) -> Answer
 pub extern "C" fn ropebonnet_prepare(file: &[u8], work: &mut [u32]) -> Answer
     ensures { after_preparing result work.new ≡ preparation_in_words (prepare_of file.now work.old) }
 {
-    prepared(runner::prepare(file, work))
+    Answer::from(runner::prepare(file, work))
 }
 
 // Checks, prepares and runs a file within a budget of steps.
@@ -51,7 +51,7 @@ pub extern "C" fn ropebonnet_run(
     ensures status { result.status ≤ 2 }
     ensures within { steps_in result ≤ budget }
 {
-    ran(runner::run(file, inputs, constants, registers, work, memory, budget))
+    Answer::from(runner::run(file, inputs, constants, registers, work, memory, budget))
 }
 
 // Where record n lies in the file: no bytes at the file's end where there is no such record.
@@ -59,7 +59,7 @@ pub extern "C" fn ropebonnet_run(
 pub extern "C" fn ropebonnet_record(file: &[u8], n: usize) -> Part
     ensures { result ≡ part_of (bounds_of file.now n) }
 {
-    located(runner::record_bounds(file, n))
+    Part::from(runner::record_bounds(file, n))
 }
 
 // What a run of a file needs to be lent, and what it declares of OUT and MEM.
@@ -75,7 +75,7 @@ pub extern "C" fn ropebonnet_needs(file: &[u8]) -> Needs
 pub extern "C" fn ropebonnet_print(file: &[u8], output: &mut [u8]) -> Answer
     ensures { after_filling result output.new ≡ written_in_words (print_of file.now output.old) }
 {
-    filled(listing::print(file, output))
+    Answer::from(listing::print(file, output))
 }
 
 // Writes the program file that a listing gives.
@@ -83,7 +83,7 @@ pub extern "C" fn ropebonnet_print(file: &[u8], output: &mut [u8]) -> Answer
 pub extern "C" fn ropebonnet_read(text: &[u8], output: &mut [u8]) -> Answer
     ensures { after_filling result output.new ≡ written_in_words (read_of text.now output.old) }
 {
-    filled(listing::read(text, output))
+    Answer::from(listing::read(text, output))
 }
 
 // The library's version, which a host compares with its header's.
