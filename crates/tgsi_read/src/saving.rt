@@ -68,7 +68,7 @@ fn ok_or_removed(rt: &HostRuntime, what: &str, part: &str, answer: io::Result<()
     done
 }
 
-// Makes a part of these bytes, and gives it the name. Where that fails, a line says why, and there is no part.
+// Makes a part of these bytes, and gives it the name. Where that fails, a line says why, and no part that it made is left.
 fn replace(rt: &HostRuntime, name: &str, part: &str, bytes: &[u8]) -> Option<()> {
     let file = files::ok_or_told(rt, part.as_bytes(), open_new(rt, part))?;
     ok_or_removed(rt, part, part, write_to_disk(file, bytes))?;

@@ -59,7 +59,7 @@ fn run_with_words(rt: &HostRuntime, program: &[u8]) -> Option<()> {
     Some(())
 }
 
-// Reads the program, one byte more than a file may have, and runs it. None: a line has said why a file cannot be used.
+// Reads the program, one byte more than a file may have, and runs it. None: a file cannot be used.
 fn run_named(rt: &HostRuntime) -> Option<()> {
     let mut program = [0u8; 65537];
     let n = files::read_bytes(rt, 1, b"program", &mut program)?;
