@@ -2,7 +2,7 @@
 #![tactic(auto)]
 
 ghost use Rattle.std.specs.Prelude.{◌≡◌, []};
-ghost use Rattle.format.specs.Refusals.{due};
+ghost use Rattle.format.specs.Refusals.{number_due};
 ghost use Rattle.checker.specs.Check.{program_seen, examined_as, examined};
 ghost use Rattle.admission.specs.Admission.{lent_refusal, admission_of};
 
@@ -27,7 +27,7 @@ pub struct Sizes {
 // Refuses what is lent for a program with the first of 20 to 24 that is due.
 #[tactic(auto, unfolding(crate::specs::Admission::lent_refusal))]
 fn lent_refusal(program: Program, sizes: Sizes) -> Result<(), Refusal>
-    ensures { due result ≡ lent_refusal (program_seen program [] []) sizes }
+    ensures { number_due result ≡ lent_refusal (program_seen program [] []) sizes }
 {
     if sizes.inputs < 4 * program.inputs as usize {
         Err(Refusal::InputsShort)

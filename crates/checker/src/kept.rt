@@ -37,8 +37,7 @@ fn reach_of(file: u8, d: Declaration, before: u32) -> u32
     if d.file != file {
         return before;
     }
-    let end = d.last as u32 + 1;
-    if before <= end { end } else { before }
+    before.max(d.last as u32 + 1)
 }
 
 // The program with a declaration more, which is followed by the place `next`.
@@ -48,17 +47,12 @@ pub fn with_declaration(p: Program, d: Declaration, next: usize) -> Program
     ensures seen { (words : List ℕ) (blocks : List Open) → program_seen result words blocks ≡ with_declaration (program_seen p words blocks) d next }
     ensures counts { (result.immediates ≡ p.immediates) × (result.instructions ≡ p.instructions) }
 {
-    let before = p.declared;
-    let declared = sets::declare(before, d);
-    let inputs = reach_of(IN, d, p.inputs);
-    let constants = reach_of(CONST, d, p.constants);
     Program {
-        declared,
-        immediates: p.immediates,
-        inputs,
-        constants,
+        declared: sets::declare(p.declared, d),
+        inputs: reach_of(IN, d, p.inputs),
+        constants: reach_of(CONST, d, p.constants),
         start: next as u32,
-        instructions: p.instructions,
+        ..p
     }
 }
 

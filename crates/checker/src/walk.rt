@@ -2,7 +2,7 @@
 ghost use Rattle.std.specs.Prelude.{◌≡◌, List, ℕ, ◌+◌, ◌*◌, ◌<◌, ◌≤◌, [], length, take, IfOk};
 ghost use Rattle.format.specs.Records.{size_at};
 ghost use Rattle.format.specs.Fields.{case_word};
-ghost use Rattle.format.specs.Refusals.{due};
+ghost use Rattle.format.specs.Refusals.{number_due};
 ghost use Rattle.blocks.specs.Control.{op_of};
 ghost use Rattle.blocks.specs.Nesting.{rule};
 ghost use Rattle.checker.specs.Findings.{nothing, nested, declaration_finding, immediate_finding, instruction_finding, record_finding};
@@ -83,7 +83,7 @@ fn immediate(
 #[tactic(auto, unfolding(crate::specs::Inner::Held::operand_refusal))]
 fn operand_refusal(p: Program, kind: u8, file: &[u8], at: u32) -> Result<(), Refusal>
     requires { p.immediates ≤ 256 }
-    ensures { due result ≡ operand_refusal p kind file.now at }
+    ensures { number_due result ≡ operand_refusal p kind file.now at }
 {
     if MOST_INSTRUCTIONS <= p.instructions as usize {
         return Err(Refusal::TooMany);

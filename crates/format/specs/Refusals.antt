@@ -108,6 +108,6 @@ number_of MalformedLine = malformed_line
 number_of OutputShort = output_short
 
 -- The number that is due, 0 where nothing is refused.
-abbrev pub due : Result (Unit {0}) Refusal → ℕ
-due (Ok _) = 0
-due (Err refusal) = number_of refusal
+abbrev pub number_due : Result (Unit {0}) Refusal → ℕ
+number_due (Ok _) = 0
+number_due (Err refusal) = number_of refusal

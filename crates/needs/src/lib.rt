@@ -57,7 +57,7 @@ fn outputs_in(declared: Declared) -> u32
 fn memory_in(declared: Declared) -> u32
     ensures { result ≡ memory_in (is_in declared) }
 {
-    if is_declared(declared, MEM, 0) { 1 } else { 0 }
+    u32::from(is_declared(declared, MEM, 0))
 }
 
 // Of a program that the check accepted.

@@ -80,10 +80,10 @@ fn wide_value(kind: u8, a: u64, b: u64) -> u64
 fn count_or(kind: u8, count: u32, value: u64) -> u64
     ensures { result ≡ count_or kind count value }
 {
-    if kind < 0x4a {
-        return value;
+    match kind {
+        0x4a..=0x4c => count as u64,
+        _ => value,
     }
-    if kind <= 0x4c { count as u64 } else { value }
 }
 
 #[tactic(auto, unfolding(crate::specs::Arithmetic::wide_of))]

@@ -2,7 +2,7 @@
 #![tactic(auto)]
 
 ghost use Rattle.std.specs.Prelude.{◌≡◌};
-ghost use Rattle.format.specs.Refusals.{due};
+ghost use Rattle.format.specs.Refusals.{number_due};
 ghost use Rattle.blocks.specs.Control.{op_of};
 ghost use Rattle.rules.specs.Kept.{nesting_kept, switch_kept, nesting_refusal};
 
@@ -55,7 +55,7 @@ pub fn nesting_refusal(
     kind: u8,
     x: u32,
 ) -> Result<(), Refusal>
-    ensures { due result ≡ nesting_refusal b values.now links.now kind x }
+    ensures { number_due result ≡ nesting_refusal b values.now links.now kind x }
 {
     if !nesting_kept(b, kind) {
         return Err(Refusal::NestingBroken);

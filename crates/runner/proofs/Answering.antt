@@ -28,7 +28,6 @@ use Rattle.preparation.proofs.Preparing.{table_made}
 use Rattle.lending.specs.Lent.{bank_env, cleared, zeroed}
 use Rattle.lending.proofs.Copies.{zeroed_is}
 use Rattle.lending.proofs.Indirect.{padded_words}
-use Rattle.execution.specs.declared.Report.{Report}
 use Rattle.execution.specs.declared.Stop.{Stop}
 use Rattle.execution.specs.Program.{carried_out}
 use Rattle.execution.specs.Steps.{reached, by_rows}
@@ -46,18 +45,6 @@ use Rattle.runner.proofs.Laws.{within_budget}
 reported_is : (r : Stop) (w : List ℕ) (t : State) → after (stop_answer r) (lent t.registers w t.memory) ≡ reported w (reached r t)
 reported_is (Stop.Ended report) w t = refl
 reported_is (Stop.Halted report next) w t = refl
-
--- Each way to stop has its answer.
-pub answered_ended : (stop : Stop) (report : Report) → stop ≡ Stop.Ended report → run_answer (Ok (Outcome.Ended report)) ≡ stop_answer stop
-answered_ended stop report e = rw e
-
-pub near_fits : (stop : Stop) (report : Report) (next : ℕ) → Near stop → stop ≡ Stop.Halted report next → next < 2 ^ 32
-near_fits stop report next near e =
-    let below : next < most_instructions = subst Near e near in
-    omega arith
-
-pub answered_halted : (stop : Stop) (report : Report) (next : ℕ) → stop ≡ Stop.Halted report next → run_answer (Ok (Outcome.Halted report next)) ≡ stop_answer stop
-answered_halted stop report next e = rw e
 
 -- ---- The run
 

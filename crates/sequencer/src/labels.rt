@@ -1,6 +1,5 @@
 // Where a SWITCH goes: the walk along its labels, which looks at all CASEs before it takes DEFAULT.
-ghost use Rattle.std.specs.Prelude.{◌≡◌, cond, suc, get_or};
-ghost use Rattle.blocks.specs.Control.{DEFAULT, is, op_of};
+ghost use Rattle.std.specs.Prelude.{◌≡◌, get_or};
 ghost use Rattle.blocks.specs.Table.{place_in, row_in};
 ghost use Rattle.blocks.specs.Run.{walk, most_instructions};
 ghost use Rattle.sequencer.specs.Labels.{ops_of, cases_of};

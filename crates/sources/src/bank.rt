@@ -1,6 +1,6 @@
 // The bank: what a program reads and never writes, in one array: CONST, IN and IMM, four words a register, and then one bit for each
 // CONST and each TEMP register that is declared.
-ghost use Rattle.std.specs.Prelude.{◌≡◌, ◌+◌, ◌≤◌, length, take, replicate};
+ghost use Rattle.std.specs.Prelude.{◌≡◌, ◌+◌, ◌≤◌, length, take};
 ghost use Rattle.sources.specs.Operands.{env_with};
 ghost use Rattle.sources.specs.Bank.{declared_in, env_in};
 ghost use Rattle.sources.specs.Inner.Laid.{laid};

@@ -2,10 +2,9 @@
 // `opening` the block that one of them opens.
 #![tactic(auto)]
 
-ghost use Rattle.std.specs.Prelude.{◌≡◌, true, ◌∷◌, [], ◌+◌, ◌*◌, ◌<◌, ◌≤◌, length, get_or};
+ghost use Rattle.std.specs.Prelude.{◌≡◌, true, ◌∷◌, [], ◌+◌, ◌*◌, ◌<◌, ◌≤◌, length};
 ghost use Rattle.std.proofs.lemmas.List.Edits.{sets};
 ghost use Rattle.format.specs.Records.{longest, next};
-ghost use Rattle.blocks.specs.Control.{op_of};
 ghost use Rattle.blocks.specs.Lists.{size};
 ghost use Rattle.blocks.specs.Run.{most_instructions};
 ghost use Rattle.blocks.specs.Table.{row_words};
