@@ -17,9 +17,9 @@ answered-requires c =
 pub returns-clause-whole : goal.returns-clause-whole
 returns-clause-whole c =
     carried_out_is _ _ _ _ _ _ _ _ _ _ c.in_ok-program.ensures _ _ _ _ _ c.carry_out_program-stop.ensures.table c.carry_out_program-stop.ensures.came
-        refl refl (Ok c.answered.result) c.answered.ensures refl
+    refl refl (Ok c.answered.result) c.answered.ensures refl
 
 pub returns-clause-within : goal.returns-clause-within
 returns-clause-within c =
     carried_within _ _ _ _ _ _ _ _ _ _ c.in_ok-program.ensures _ _ _ _ _ c.carry_out_program-stop.ensures.table c.carry_out_program-stop.ensures.came
-        refl refl (Ok c.answered.result) c.answered.ensures refl
+    refl refl (Ok c.answered.result) c.answered.ensures refl
