@@ -1,7 +1,7 @@
 -- Ranges of kinds: a test that holds of each number from one to another holds of a kind between them, which antt computes.
 -- Assumes nothing.
-use mathlib.Core.Path.{◌≡◌, sym}
-use mathlib.Core.Bool.{Bool, true, false, ◌&&◌, ◌||◌}
+use mathlib.Core.Path.{◌≡◌, refl, sym}
+use mathlib.Core.Bool.{Bool, true, false, not, ◌&&◌, ◌||◌}
 use mathlib.Core.Logic.{⊎_elim}
 use Prim.Native.Nat.{ℕ, zero, suc, ◌+◌, ◌-◌, ◌<◌, ◌≤◌}
 use native.Mathlib.Omega.{arith}
@@ -31,12 +31,32 @@ every_at t lo (suc n) k h a b =
 pub in_range : (t : ℕ → Bool) (lo hi k : ℕ) → T (every t lo (hi - lo)) → lo ≤ k → k < hi → T (t k)
 in_range t lo hi k h a b = every_at t lo (hi - lo) k h a (omega arith)
 
--- What a rule gives at a number, and at every number of a range but one.
-module _ (rule : ℕ → ℕ) (n : ℕ) where
+-- What a rule gives at a kind, and at every kind of a range but one that has an arm of its own.
+module _ {A : Type 0} (rule : ℕ → A) (n : A) where
   pub given_at : (own : ℕ) → n ≡ rule own → (k : ℕ) → k ≡ own → n ≡ rule k
   given_at own h k e = rw e h
 
+  module _ (same : A → A → Bool) (equal : (a b : A) → T (same a b) → a ≡ b) where
+    gives_in : (own lo hi : ℕ) → T (every (λ k. eqb k own || same (rule k) n) lo (hi - lo)) → (k : ℕ) → (k ≡ own → ⊥) → lo ≤ k → k < hi → n ≡ rule k
+    gives_in own lo hi h k d a b =
+        let told : T (same (rule k) n) = simp (ne_eqb k own d) at (in_range (λ k. eqb k own || same (rule k) n) lo hi k h a b) in
+        sym (equal (rule k) n told)
+
+-- A number, and whether a test holds.
+module _ (rule : ℕ → ℕ) (n : ℕ) where
   pub given_in : (own lo hi : ℕ) → T (every (λ k. eqb k own || eqb (rule k) n) lo (hi - lo)) → (k : ℕ) → (k ≡ own → ⊥) → lo ≤ k → k < hi → n ≡ rule k
-  given_in own lo hi h k d a b =
-      let told : T (eqb (rule k) n) = simp (ne_eqb k own d) at (in_range (λ k. eqb k own || eqb (rule k) n) lo hi k h a b) in
-      sym (eqb→eq (rule k) n told)
+  given_in = gives_in rule n eqb eqb→eq
+
+abbrev alike : Bool → Bool → Bool
+alike true b = b
+alike false b = not b
+
+alike_equal : (a b : Bool) → T (alike a b) → a ≡ b
+alike_equal true true h = refl
+alike_equal true false h = absurd h
+alike_equal false true h = absurd h
+alike_equal false false h = refl
+
+module _ (test : ℕ → Bool) (b : Bool) where
+  pub told_in : (own lo hi : ℕ) → T (every (λ k. eqb k own || alike (test k) b) lo (hi - lo)) → (k : ℕ) → (k ≡ own → ⊥) → lo ≤ k → k < hi → b ≡ test k
+  told_in = gives_in test b alike alike_equal

@@ -1,6 +1,6 @@
 -- The refusals by number, each under its row (document 01, "Refusals by number"; document 02, W1).
 -- Assumes nothing.
-use Rattle.std.specs.Prelude.{ℕ, Result, Ok, Err}
+use Rattle.std.specs.Prelude.{ℕ, List, [], ◌∷◌, Option, Result, Ok, Err, codes, find, nat_eq}
 use Rattle.format.specs.declared.refusals.Refusal.{Refusal}
 use Rattle.format.specs.declared.refusals.Refusal.TheVariants.{TooLong, ByteAfterEnd, UnknownKind, BodyCut, LateDeclaration, TooMany, FieldRuleBroken, Overlapping, NotDeclared, NestingBroken, SwitchRuleBroken, TooDeep, NoEnd, InputsShort, ConstantsShort, RegistersShort, WorkingShort, MemoryLong, MalformedLine, OutputShort}
 
@@ -111,3 +111,37 @@ number_of OutputShort = output_short
 abbrev pub number_due : Result (Unit {0}) Refusal → ℕ
 number_due (Ok _) = 0
 number_due (Err refusal) = number_of refusal
+
+-- What a refusal says to a person, in the papers' words.
+abbrev pub meaning_of : Refusal → List ℕ
+meaning_of TooLong = codes "file over 65,536 bytes"
+meaning_of ByteAfterEnd = codes "a byte follows END"
+meaning_of UnknownKind = codes "unknown kind"
+meaning_of BodyCut = codes "body runs past the file"
+meaning_of LateDeclaration = codes "declaration or immediate after an instruction"
+meaning_of TooMany = codes "1,025th instruction or 257th immediate"
+meaning_of FieldRuleBroken = codes "a field rule broken"
+meaning_of Overlapping = codes "declaration overlaps an earlier one of its file"
+meaning_of NotDeclared = codes "operand not declared, or no such immediate, or memory kind without MEM"
+meaning_of NestingBroken = codes "nesting broken"
+meaning_of SwitchRuleBroken = codes "switch rule broken"
+meaning_of TooDeep = codes "a 17th open block"
+meaning_of NoEnd = codes "file ends without END"
+meaning_of InputsShort = codes "inputs shorter than the program declares"
+meaning_of ConstantsShort = codes "constants shorter than the program declares"
+meaning_of RegistersShort = codes "registers under 1,156 words"
+meaning_of WorkingShort = codes "working words under 3 per instruction"
+meaning_of MemoryLong = codes "memory over 16,384 words"
+meaning_of MalformedLine = codes "malformed line, also an unknown kind or a number too large for its field"
+meaning_of OutputShort = codes "output short"
+
+-- All of them, in the order of their numbers.
+abbrev pub refusals : List Refusal
+refusals =
+    TooLong ∷ ByteAfterEnd ∷ UnknownKind ∷ BodyCut ∷ LateDeclaration ∷ TooMany ∷ FieldRuleBroken ∷ Overlapping ∷ NotDeclared ∷ NestingBroken ∷
+    SwitchRuleBroken ∷ TooDeep ∷ NoEnd ∷ InputsShort ∷ ConstantsShort ∷ RegistersShort ∷ WorkingShort ∷ MemoryLong ∷ MalformedLine ∷
+    OutputShort ∷ []
+
+-- The refusal that has a number, where there is one.
+abbrev pub refusal_of : ℕ → Option Refusal
+refusal_of n = find (λ r. nat_eq (number_of r) n) refusals

@@ -1,6 +1,6 @@
 // The refusals, each with its number under its row (document 01, "Refusals by number"; document 02, W1).
-ghost use Rattle.std.specs.Prelude.{◌≡◌};
-ghost use Rattle.format.specs.Refusals.{number_of};
+ghost use Rattle.std.specs.Prelude.{◌≡◌, Some};
+ghost use Rattle.format.specs.Refusals.{number_of, refusal_of, meaning_of};
 
 use std::fmt;
 
@@ -75,10 +75,49 @@ impl Refusal {
     {
         self as u8
     }
+
+    // The refusal that has a number, where there is one.
+    pub fn of_number(number: u8) -> Option<Refusal>
+        ensures { result ≡ refusal_of number }
+    {
+        match number {
+            1 => Some(Refusal::TooLong),
+            2 => Some(Refusal::ByteAfterEnd),
+            3 => Some(Refusal::UnknownKind),
+            4 => Some(Refusal::BodyCut),
+            5 => Some(Refusal::LateDeclaration),
+            6 => Some(Refusal::TooMany),
+            7 => Some(Refusal::FieldRuleBroken),
+            8 => Some(Refusal::Overlapping),
+            9 => Some(Refusal::NotDeclared),
+            10 => Some(Refusal::NestingBroken),
+            11 => Some(Refusal::SwitchRuleBroken),
+            12 => Some(Refusal::TooDeep),
+            13 => Some(Refusal::NoEnd),
+            20 => Some(Refusal::InputsShort),
+            21 => Some(Refusal::ConstantsShort),
+            22 => Some(Refusal::RegistersShort),
+            23 => Some(Refusal::WorkingShort),
+            24 => Some(Refusal::MemoryLong),
+            30 => Some(Refusal::MalformedLine),
+            31 => Some(Refusal::OutputShort),
+            _ => None,
+        }
+    }
+}
+
+impl From<Refusal> for u8 {
+    ghost from_gives = { λ refusal number. number ≡ number_of refusal };
+
+    fn from(refusal: Refusal) -> u8 {
+        refusal.number()
+    }
 }
 
 // What a refusal says to a person, in the papers' words.
 impl fmt::Display for Refusal {
+    ghost output = { λ refusal. Some (meaning_of refusal) };
+
     fn fmt<W: fmt::Write>(&self, f: &mut fmt::Formatter<W>) -> fmt::Result {
         f.write_str(match self {
             Refusal::TooLong => "file over 65,536 bytes",
