@@ -10,7 +10,7 @@ use native.Mathlib.Numerals.{add-one}
 use native.Mathlib.Nat.{zero-add, add-zero, mul-zero, pow-suc, zero-div, add-suc, suc-add}
 use lib.Dec.{leb, ltb}
 use lib.Pow.{high}
-use lib.ListN.{length, get_or}
+use lib.ListN.{length, get_or, get_or-eq_default}
 use borrow.Author.Tests.{eqb-false}
 use Rattle.words.specs.Word.{is_set, bit_in}
 use Rattle.registers.specs.Sets.{any_of}
@@ -56,6 +56,20 @@ module _ (p : ℕ → Bool) where
   any_append (suc m) n i =
       rw (suc-add m n) (ap (λ (t : Bool). p i || t) (any_append m n (suc i)) ∙ joined (p i) (any_of p (suc i) m) (any_of p (suc i + m) n)
       ∙ ap (λ (k : ℕ). (p i || any_of p (suc i) m) || any_of p k n) (suc-add i m ∙ sym (add-suc i m)))
+
+  -- Where none of the later numbers is as asked, the first m say it of all n.
+  pub any_within : (first m n : ℕ) → m ≤ n → ((i : ℕ) → first + m ≤ i → i < first + n → p i ≡ false) → any_of p first m ≡ any_of p first n
+  any_within first m n h none =
+      let e : n ≡ m + (n - m) = omega arith in
+      let later : any_of p (first + m) (n - m) ≡ false = none_of (n - m) (first + m) (λ k l. none (first + m + k) (omega arith) (omega arith)) in
+      sym (ap (any_of p first) e ∙ any_append m (n - m) first ∙ rw (later, or_false))
+
+-- Past the words no bit is set.
+pub past_words : (ws : List ℕ) (i : ℕ) → 32 * length ws ≤ i → bit_in ws i ≡ false
+unfolding bit_in
+past_words ws i h =
+    let l : length ws ≤ i / 32 = omega arith in
+    rw (get_or-eq_default ws 0 l, zero-div (2 ^ (i % 32)))
 
 -- ---- A word that is not 0 has a bit
 

@@ -36,11 +36,12 @@ pub fn empty() -> Declared
     }
 }
 
-// Whether a bit from first to last is set.
+// Whether a bit from first to last is set. Past the words none is, so the walk ends with them.
 fn has_any(words: &[u32], first: u16, last: u16) -> bool
     ensures { result ≡ any_of (bit_in words.now) first (last + 1 - first) }
 {
-    (first as usize..last as usize + 1).any(|i| bit_in(words, i))
+    let end = (last as usize + 1).min(words.len().saturating_mul(32));
+    (first as usize..end).any(|i| bit_in(words, i))
 }
 
 // Whether any bit is set at all.
