@@ -159,6 +159,15 @@ module _ (b : Blocks) (values links : List ℕ) (kind x : ℕ) (sound : SoundBlo
       pub nest_after : (c : Blocks) → r ≡ Ok c → After b c values' links'
       nest_after c e = answer.after c (ap nested_as e)
 
+      pub nest_sound : (c : Blocks) → r ≡ Ok c → SoundBlocks c
+      nest_sound c e = (nest_after c e).sound
+
+      pub nest_held : (c : Blocks) → r ≡ Ok c → c.held ≤ b.held + 1
+      nest_held c e = (nest_after c e).held
+
+      pub nest_trees : (c : Blocks) → r ≡ Ok c → Trees c values' links'
+      nest_trees c e = (nest_after c e).trees
+
       pub nest_stays : (refusal : Refusal) → r ≡ Err refusal → (values' ≡ values) × (links' ≡ links)
       nest_stays refusal e = answer.stays (number_of refusal) (ap nested_as e)
 

@@ -16,7 +16,7 @@ use Rattle.format.specs.Kinds.{destinations, sources, form_of, first_source}
 use Rattle.format.specs.Fields.{destination_at, source_at}
 use Rattle.format.specs.declared.fields.Destination.{Destination}
 use Rattle.format.specs.declared.fields.Source.{Source}
-use Rattle.registers.specs.Rules.{all_sources, all_operands}
+use Rattle.registers.specs.Rules.{destination_file, all_sources, all_operands}
 
 -- ---- The sources by their numbers
 
@@ -55,3 +55,7 @@ pub all_operands_is : (kind d : ℕ) (askedD : Destination → Bool) (askedS : S
     → ((eqb d 0 || x) && y) ≡ all_operands kind askedD askedS file at
 unfolding all_operands
 all_operands_is kind d askedD askedS file at r x y ds here answer rest = rw (rest, answer, here, ds)
+
+-- The side of the rule that a kind picks. It stands in the conclusion, computed: no other side fits.
+pub written_by : (k kind f : ℕ) → kind ≡ k → destination_file k f ≡ destination_file kind f
+written_by k kind f e = rw e

@@ -11,11 +11,12 @@ use lib.ListN.{length, get_or}
 use Rattle.blocks.specs.Control.{op_of}
 use Rattle.blocks.specs.Lists.{nil, size}
 use Rattle.blocks.specs.Nesting.{opens}
-use Rattle.blocks.specs.Table.{first_label}
+use Rattle.blocks.specs.declared.Targets.{Targets}
+use Rattle.blocks.specs.Table.{first_label, in_switch}
 use Rattle.lists.specs.Lists.{op_in, list_in, block_in}
 use Rattle.lists.proofs.Tests.{opening_kind}
 use Rattle.lists.proofs.Readers.{past_end, at_none, at_loop, at_switch, at_uif}
-use Rattle.rows.specs.Opened.{opened_by}
+use Rattle.rows.specs.Opened.{opened_by, inside_of}
 
 -- ---- `block_at`
 
@@ -76,3 +77,10 @@ module _ (kinds : List ℕ) (n : ℕ) where
         k (λ q other. refl))
 
 pub ruleset opened = (opened_past, opened_other, opened_switch, opened_uif)
+
+-- ---- `inside`
+
+module _ (kind first end : ℕ) (t r : Targets) where
+  pub inside_switch : kind ≡ 0x91 → r ≡ in_switch end t → r ≡ inside_of (op_of kind) first end t
+  unfolding op_of
+  inside_switch k e = rw k e
