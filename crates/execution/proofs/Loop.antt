@@ -23,12 +23,17 @@ module _ (file rows : List ℕ) (e : Env) where
 
   -- After c steps of a budget b the loop stands at instruction n, and what is left comes to `whole`.
   module _ (whole : Reading State) (b c n : ℕ) (r q : List ℕ) (left : by_rows file rows e (b - c) c n (state r q) ≡ whole) where
-    pub is_spent : c ≤ b → b ≤ c → reached (Stop.Halted (report b) n) (state r q) ≡ whole
+    pub is_spent : b ≤ c → reached (Stop.Halted (report c) n) (state r q) ≡ whole
     unfolding by_rows
-    is_spent h k =
+    is_spent h =
         let none : b - c ≡ 0 = omega arith in
+        rw none at left
+
+    -- The loop takes no step past its budget.
+    pub budget_spent : c ≤ b → b ≤ c → reached (Stop.Halted (report b) n) (state r q) ≡ whole
+    budget_spent h k =
         let all : c ≡ b = omega arith in
-        rw (← all) (rw none at left)
+        rw (← all) (is_spent k)
 
     module _ (more : c < b) where
       one_less : b - c ≡ suc (b - suc c)

@@ -1,5 +1,5 @@
 -- Each way out of a step leaves what the rest comes to as it was.
-use Rattle.execution.proofs.Loop.{none_yet, goes_on, comes_to_end, leads_out, is_spent}
+use Rattle.execution.proofs.Loop.{none_yet, goes_on, comes_to_end, leads_out, budget_spent}
 use Rattle.execution.proofs.steps.carry_out.Goals as goal
 
 pub loop-steps-init : goal.loop-steps-init
@@ -20,4 +20,4 @@ returns-in-None c =
     _ _ _ c.if-n-ge-MOST_INSTRUCTIONS.false c.step.ensures c.in-None.is
 
 pub returns : goal.returns
-returns c = is_spent _ _ _ _ _ _ _ _ _ c.loop-steps.invariant c.loop-steps.auto.steps-end c.loop-steps-test.false
+returns c = budget_spent _ _ _ _ _ _ _ _ _ c.loop-steps.invariant c.loop-steps.auto.steps-end c.loop-steps-test.false

@@ -1,6 +1,6 @@
 -- The end of the labels, the CASE, one label more, and the walk's last one.
 use Rattle.std.proofs.Common.{◌∙◌}
-use Rattle.sequencer.proofs.Walks.{case_found, default_found, default_none, label_passed, walk_ended, walk_spent}
+use Rattle.sequencer.proofs.Walks.{case_found, default_found, default_none, label_left, walk_ended, walk_spent}
 use Rattle.sequencer.proofs.labels.after_label.Goals as goal
 use Rattle.sequencer.proofs.labels.after_label.Goals.{then-kind, else-kind}
 
@@ -14,7 +14,7 @@ returns-then-is_case c =
 
 pub loop-preserved : goal.loop-preserved
 loop-preserved c =
-    label_passed c.args.immediates.now c.args.file.now c.args.rows.now c.args.x _ _ _ _ _ c.loop.invariant c.loop-test.true c.if-m-eq0.false
+    label_left c.args.immediates.now c.args.file.now c.args.rows.now c.args.x _ _ _ _ _ c.loop.invariant c.loop-test.true c.if-m-eq0.false
     _ _ c.place_of-place.ensures c.byte_at-kind.ensures _ c.is_case.ensures _ _ c.if-is_case.false
     (elim c.if-kind.branch [
       | then-kind w ↦ w.other-is ∙ default_found _ _ _ w.if-kind.true
