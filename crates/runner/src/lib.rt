@@ -10,7 +10,7 @@ use admission::{Sizes, admit};
 pub use checker::check;
 pub use execution::Report;
 use execution::Stop;
-use format::refusals::Refused;
+pub use format::refusals::{Refusal, Refused};
 pub use preparation::prepare;
 pub use records::{record, record_bounds};
 use running::carry_out_program;
