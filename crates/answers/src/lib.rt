@@ -2,14 +2,13 @@
 #![tactic(auto)]
 
 ghost use Rattle.std.specs.Prelude.{◌≡◌};
-ghost use Rattle.format.specs.Refusals.{number_of};
 ghost use Rattle.checker.specs.Check.{told};
 ghost use Rattle.runner.specs.Answers.{run_answer};
 ghost use Rattle.text.specs.Output.{answered};
 ghost use Rattle.answers.specs.Words.{words, told_words, answer_of, in_word, filled_words, part_of};
 
 use format::records::Bounds;
-use format::refusals::{Refusal, Refused};
+use format::refusals::Refused;
 use runner::Outcome;
 
 // Status 0: done, with the number of instructions (check and prepare), of steps (run) or of bytes written (print and read)
@@ -47,12 +46,13 @@ fn done(count: u32) -> Answer
     }
 }
 
-fn refused(refusal: Refusal, place: u32) -> Answer
-    ensures { result ≡ words 2 (number_of refusal) place }
+// A refusal by its number; also one whose number is no refusal's.
+pub fn refused(number: u8, place: u32) -> Answer
+    ensures { result ≡ words 2 number place }
 {
     Answer {
         status: REFUSED,
-        first: refusal.number() as u32,
+        first: number as u32,
         second: place,
     }
 }
@@ -64,7 +64,7 @@ impl From<Result<u32, Refused<u32>>> for Answer {
     fn from(said: Result<u32, Refused<u32>>) -> Answer {
         match said {
             Ok(instructions) => done(instructions),
-            Err(Refused { refusal, place }) => refused(refusal, place),
+            Err(Refused { refusal, place }) => refused(refusal.number(), place),
         }
     }
 }
@@ -81,7 +81,7 @@ impl From<Result<Outcome, Refused<u32>>> for Answer {
                 first: report.steps,
                 second: next,
             },
-            Err(due) => refused(due.refusal, due.place),
+            Err(due) => refused(due.refusal.number(), due.place),
         }
     }
 }
@@ -100,7 +100,7 @@ impl From<Result<usize, Refused<usize>>> for Answer {
     fn from(filled: Result<usize, Refused<usize>>) -> Answer {
         match filled {
             Ok(length) => done(word(length)),
-            Err(Refused { refusal, place }) => refused(refusal, word(place)),
+            Err(Refused { refusal, place }) => refused(refusal.number(), word(place)),
         }
     }
 }

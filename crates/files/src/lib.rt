@@ -5,7 +5,7 @@
 mod reading;
 mod reasons;
 
-ghost use Rattle.std.specs.Prelude.{◌≤◌, IfSome};
+ghost use Rattle.std.specs.Prelude.{◌<◌, IfSome};
 ghost use Rattle.io.specs.Counts.{IsPrefixLen};
 
 pub use reading::{fill, open, text_of};
@@ -119,7 +119,7 @@ fn start_of<F: io::Read>(
     buffer: &mut [u8],
 ) -> Option<Start>
     ensures within { IfSome result (λ start. IsPrefixLen start.count buffer.new) }
-    ensures rest { IfSome result (λ start. start.rest ≤ 9223372036854775808) }
+    ensures rest { IfSome result (λ start. start.rest < 9223372036854775808) }
 {
     let count = reading::fill(rt, file, path, buffer)?;
     let rest = reading::rest_of(rt, file, path)?;
@@ -129,7 +129,7 @@ fn start_of<F: io::Read>(
 // The same of a file by its name.
 pub fn start_named(rt: &HostRuntime, path: &[u8], buffer: &mut [u8]) -> Option<Start>
     ensures within { IfSome result (λ start. IsPrefixLen start.count buffer.new) }
-    ensures rest { IfSome result (λ start. start.rest ≤ 9223372036854775808) }
+    ensures rest { IfSome result (λ start. start.rest < 9223372036854775808) }
 {
     let mut file = reading::open(rt, path)?;
     start_of(rt, &mut file, path, buffer)

@@ -1,5 +1,5 @@
 // Reading a file to its end. Each read's answer is looked at, so a read that fails is never taken for the end.
-ghost use Rattle.std.specs.Prelude.{◌≡◌, ◌≤◌, IfSome, MatchOption};
+ghost use Rattle.std.specs.Prelude.{◌≡◌, ◌≤◌, ◌<◌, IfSome, MatchOption};
 ghost use Rattle.std.specs.Str.{IsUtf8};
 ghost use Rattle.io.specs.Counts.{IsPrefixLen};
 
@@ -72,7 +72,7 @@ fn pass_over<F: io::Read>(rt: &HostRuntime, file: &mut F, path: &[u8]) -> Option
 // Passes over all that is left of a file, and counts it. A proved loop ends, and nothing says that a file does: of one that goes on after
 // TURNS reads there is no count.
 pub fn rest_of<F: io::Read>(rt: &HostRuntime, file: &mut F, path: &[u8]) -> Option<u64>
-    ensures { IfSome result (λ n. n ≤ 9223372036854775808) }
+    ensures { IfSome result (λ n. n < 9223372036854775808) }
 {
     let mut bytes = 0;
     for _ in 0..TURNS {

@@ -6,26 +6,31 @@ ghost use Rattle.std.specs.Prelude.{◌≡◌, ◌≢◌, ℕ, Result, Ok, Match
 
 use format::refusals::{Refusal, Refused};
 
-// `refused NUMBER PLACE`
-pub fn refusal_line(rt: &impl Print, refusal: Refusal, place: u64)
+// `refused NUMBER PLACE`, of a refusal or of any number.
+pub fn refusal_line(rt: &impl Print, number: impl Into<u8>, place: u64)
     ensures { Unit {0} }
 {
-    let _ = println!(rt; "refused {} {place}", refusal.number());
+    let number: u8 = number.into();
+    let _ = println!(rt; "refused {number} {place}");
 }
 
 // What a refusal says.
-pub fn meaning_line(rt: &impl Print, refusal: Refusal)
+pub fn meaning_line(rt: &impl Print, number: impl Into<u8>)
     ensures { Unit {0} }
 {
-    let _ = println!(rt; "{refusal}");
+    let _ = match Refusal::of_number(number.into()) {
+        Some(refusal) => println!(rt; "{refusal}"),
+        None => println!(rt; "no such refusal"),
+    };
 }
 
 // Both lines.
-pub fn refusal_lines(rt: &impl Print, refusal: Refusal, place: u64)
+pub fn refusal_lines(rt: &impl Print, number: impl Into<u8>, place: u64)
     ensures { Unit {0} }
 {
-    refusal_line(rt, refusal, place);
-    meaning_line(rt, refusal);
+    let number: u8 = number.into();
+    refusal_line(rt, number, place);
+    meaning_line(rt, number);
 }
 
 // How many bytes were written, or none after the lines of a refusal.
